@@ -22,6 +22,7 @@ use Rattle.ciel_run_line.specs.Causes.{CauseOf, JobCause, TooLongOf}
 use Rattle.ciel_run.specs.Ending.{Answers, EndCause, IsAnswered}
 use Rattle.ciel_run_line.specs.Line.{FitsIn, OfLine, StandsIn, files_of}
 use Rattle.ciel_run_line.proofs.Comes.{surely_line}
+use Rattle.ciel_run_line.proofs.Own.{no_bad_record}
 use Rattle.ciel_run_line.specs.Runs.{IsDriven, IsModestFor, digest_of, plan_of, told_of}
 use Rattle.ciel_run_line.specs.Source.{OfJob, job_of, over_lines}
 use Rattle.ciel_run_log.specs.declared.why.Why.{Why}
@@ -205,7 +206,7 @@ module _ (content : List ℕ → Option (List ℕ)) (w : Words) (risen : Type 0)
   answers (Why.ReadFault path) c quiet nw bg dr source inputs st fits m stays = absurd (quiet c.1)
   answers Why.Usage c quiet nw bg dr source inputs st fits m stays = absurd c
   answers (Why.LogFull path held) c quiet nw bg dr source inputs st fits m stays = c.0
-  answers (Why.BadLog path at) c quiet nw bg dr source inputs st fits m stays = c.1
+  answers (Why.BadLog path at) c quiet nw bg dr source inputs st fits m stays = absurd (no_bad_record content w path at c.1 c.3 source inputs st)
   answers (Why.OtherJob path) c quiet nw bg dr source inputs st fits m stays =
       absurd (own_header content w path c.1 source inputs (c.3 source inputs st.there).0 (c.3 source inputs st.there).1 st.own)
   answers (Why.KeepFault path) c quiet nw bg dr source inputs st fits m stays = absurd (bg path refl)

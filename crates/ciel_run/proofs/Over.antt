@@ -35,7 +35,7 @@ use Rattle.ciel_run_line.specs.Asked.{StopsFor}
 use Rattle.ciel_run_line.specs.Line.{FitsIn, LogIsOwn, OfLine, OfSource, OverFiles, OverLine, SourceFits, SourceIn, Stands, StandsIn, Surely, files_of, is_plain, log_of}
 use Rattle.ciel_run_line.specs.Line.{paths, resume_of}
 use Rattle.ciel_run_line.specs.Keeping.{header_of}
-use Rattle.ciel_run_line.proofs.Own.{not_other}
+use Rattle.ciel_run_line.proofs.Own.{no_bad_record, not_other}
 use Rattle.ciel_run_line.specs.Whole.{BeginsOther}
 use Rattle.ciel_run_line.specs.Runs.{IsDriven, IsModestFor, digest_of, log_path, plan_of, told_of}
 use Rattle.ciel_run_line.specs.Source.{IsAnswer, OfJob, job_of, over_lines}
@@ -181,8 +181,7 @@ module _ (content : List ℕ → Option (List ℕ)) (w : Words) where
         let y = x.1 source inputs st in (y.0, (y.1.0, y.1.1, y.1.2.2))
     expected_of (Why.ReadFault path) x quiet nw bg source inputs st = absurd (quiet x.1)
     expected_of (Why.KeepFault path) x quiet nw bg source inputs st = absurd (bg path refl)
-    expected_of (Why.BadLog path at) x quiet nw bg source inputs st =
-        let y = x.3 source inputs st.there in (y.0, (x.1, (y.1.0, y.1.1, tt)))
+    expected_of (Why.BadLog path at) x quiet nw bg source inputs st = absurd (no_bad_record content w path at x.1 x.3 source inputs st)
     expected_of (Why.OtherJob path) x quiet nw bg source inputs st =
         absurd (own_header path x.1 source inputs (x.3 source inputs st.there).0 (x.3 source inputs st.there).1 st.own)
     expected_of (Why.LogFull path held) x quiet nw bg source inputs st = absurd x

@@ -194,7 +194,6 @@ MayEnd w source inputs (Why.Endless names) = HasNone source inputs
 MayEnd w source inputs Why.AllLost = IsSource source inputs
 MayEnd w source inputs (Why.NameClash kept given) = IsSource source inputs
 MayEnd w source inputs (Why.TooDeepPlain depth) = HasChain source inputs 4096
-MayEnd w source inputs (Why.BadLog path at) = (w.resume ≡ Some path) × IsSource source inputs
 MayEnd w source inputs (Why.LogFull path held) = (log_path w ≡ Some path) × ((a : List ℕ) × IsAnswer source inputs (Answered.bytes a))
 MayEnd w source inputs _ = ⊥
 
@@ -208,8 +207,7 @@ abbrev pub LogTooLong : Words → List ℕ → List Input → List ℕ → ℕ �
 LogTooLong w source inputs path at = (w.resume ≡ Some path) × (at ≡ most) × FitsIn (files_of w) source inputs × IsSource source inputs
 
 -- how a call ends over a script with this source and these inputs, where reading and writing go well: what is too long is refused, bytes
--- that are no script are, and any other call ends with what its job comes to, but for want of memory. That a log of its own is never refused
--- isn't said
+-- that are no script are, and any other call ends with what its job comes to, but for want of memory. A log of its own is never refused
 abbrev pub IsExpected : Words → List ℕ → List Input → Why → Type 0
 IsExpected w source inputs (Why.Syntax kind l c) = SourceFits (files_of w) source × IsSyntaxFault source kind l c
 IsExpected w source inputs (Why.TooLongInput path at) = TooLongIn (files_of w) source inputs path at ⊎ LogTooLong w source inputs path at
@@ -217,14 +215,13 @@ IsExpected w source inputs Why.Memory = Unit {0}
 IsExpected w source inputs why = FitsIn (files_of w) source inputs × MayEnd w source inputs why
 
 -- an end with the job's answer, or for want of memory; a sequential run may find a chain too long, and another's log may be full; one that is
--- gone on from may be too long, or refused
+-- gone on from may be too long
 abbrev pub IsAnswered : Words → Why → Type 0
 IsAnswered w Why.Done = Unit {0}
 IsAnswered w (Why.Fault fault) = Unit {0}
 IsAnswered w Why.Memory = Unit {0}
 IsAnswered w (Why.TooDeepPlain depth) = w.plain ≡ true
 IsAnswered w (Why.LogFull path held) = w.plain ≡ false
-IsAnswered w (Why.BadLog path at) = w.resume ≡ Some path
 IsAnswered w (Why.TooLongInput path at) = w.resume ≡ Some path
 IsAnswered w _ = ⊥
 

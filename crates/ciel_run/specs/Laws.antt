@@ -39,7 +39,6 @@ EndsScript w script inputs (Why.NameClash kept given) = Unit {0}
 EndsScript w script inputs (Why.LogFull path held) = (a : List ℕ) × Means (job_of script inputs) over_lines (Answered.bytes a)
 EndsScript w script inputs (Why.TooDeepPlain depth) = (d : Desc) × Chain (job_of script inputs) over_lines 4096 d
 EndsScript w script inputs Why.Memory = Unit {0}
-EndsScript w script inputs (Why.BadLog path at) = w.resume ≡ Some path
 EndsScript w script inputs (Why.TooLongInput path at) = w.resume ≡ Some path
 EndsScript w script inputs _ = ⊥
 

@@ -8,6 +8,7 @@ use crate::watch::{Flags, Watch, Watched};
 use ciel_master::entry::Entry;
 use ciel_master::stop::RunEnd;
 use ciel_name::name::Sha1Namer;
+use ciel_run_job_tests::hands::Hands;
 use ciel_run_job_tests::job::plan;
 use ciel_run_job_tests::run::{Ran, run_job};
 use std::alloc::Global;
@@ -43,7 +44,8 @@ fn ran<R: Threads + Wait + Copy + Send + Drop + 'static>(
 {
     let job = job(alloc)?;
     let plan = plan(alloc, workers);
-    Ok(run_job(rt, alloc, job, kit, Sha1Namer, gates, plan))
+    let hands = Hands::of(workers, None);
+    Ok(run_job(rt, alloc, job, kit, Sha1Namer, gates, plan, hands))
 }
 
 // How many tasks were started at a worker.

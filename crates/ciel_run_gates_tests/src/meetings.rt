@@ -7,6 +7,7 @@ use crate::counting::{FIRST, SECOND, answers, job};
 use ciel_gate::meeting::Meeting;
 use ciel_master::entry::Entry;
 use ciel_name::name::Sha1Namer;
+use ciel_run_job_tests::hands::Hands;
 use ciel_run_job_tests::job::plan;
 use ciel_run_job_tests::run::{Ran, run_inline, run_job};
 use line_kit::kit::LineKit;
@@ -52,7 +53,8 @@ fn ran<R: Threads + Wait + Copy + Send + Drop + 'static>(
 {
     let job = job(alloc)?;
     let plan = plan(alloc, workers);
-    Ok(run_job(rt, alloc, job, LineKit, Sha1Namer, gates, plan))
+    let hands = Hands::of(workers, None);
+    Ok(run_job(rt, alloc, job, LineKit, Sha1Namer, gates, plan, hands))
 }
 
 // The same on two workers in this thread.

@@ -1,8 +1,9 @@
 //! A job on the engine: a shop, a master and a crew are opened over it, and the run is driven to its end.
 //!
-//! What executes is a crew of threads (`ciel_crew_channels`), or with one worker the crew in one thread (`ciel_crew_inline`); `run_rounds` has
-//! one that performs its orders by rounds (`ciel_crew_rounds`). Nothing that is said here speaks of any of them: the end, the journal and what
-//! the gates tell are those that driving promises of any crew.
+//! What executes is the crew that the caller's hands say (`ciel_crew_choice`): the one in one thread (`ciel_crew_inline`), a crew of threads
+//! (`ciel_crew_channels`) or one that shares them (`ciel_steal`); `run_inline` has the one in one thread, and `run_rounds` one that performs its
+//! orders by rounds (`ciel_crew_rounds`). Nothing that is said here speaks of any of them: the end, the journal and what the gates tell are those
+//! that driving promises of any crew.
 #![tactic(auto)]
 
 pub mod gates;
@@ -10,5 +11,7 @@ pub mod opening;
 pub mod run;
 
 pub use ciel_crew_channels::channels;
+pub use ciel_crew_choice::hands;
 pub use ciel_crew_inline::inline;
 pub use ciel_run_drive::{draws, law};
+pub use ciel_steal::steal;

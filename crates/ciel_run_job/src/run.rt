@@ -1,9 +1,10 @@
-//! The run of a job: over a crew of threads, by rounds, or in the caller's own thread.
+//! The run of a job: on hands of the caller's choice, by rounds, or in the caller's own thread.
 
 ghost use Rattle.std.specs.Prelude.{[], ◌≡◌, ◌≢◌, ◌≤◌, ◌⊎◌, ◌++◌, ◌<◌, ◌^◌, ℕ, IfOk, drop, length, map, take};
 ghost use Rattle.std.specs.Arc.{arc_value};
 ghost use Rattle.sky_base.specs.JobView.{job_view};
 ghost use Rattle.ciel_crew_channels.specs.Onward.{IsRead};
+ghost use Rattle.ciel_crew_choice.specs.Kinds.{IsFew};
 ghost use Rattle.ciel_journal.specs.Job.{Each};
 ghost use Rattle.ciel_run_drive.specs.Working.{Working};
 ghost use Rattle.ciel_run_drive.specs.Ended.{EndsSo};
@@ -19,6 +20,7 @@ ghost use Rattle.ciel_run_job.specs.Told.{told_of};
 use crate::gates::{put_behind, set_aside};
 use crate::opening::{Opened, open};
 use ciel_crew_channels::channels::Channels;
+use ciel_crew_choice::hands::Hands;
 use ciel_crew_inline::inline::Inline;
 use ciel_crew_rounds::rounds::Rounds;
 use ciel_gate::gate::Gate;
@@ -29,6 +31,7 @@ use ciel_run_drive::entry::Entry;
 use ciel_run_drive::master::Master;
 use ciel_run_drive::plan::RunPlan;
 use ciel_run_drive::stop::RunEnd;
+use ciel_steal::steal::Steal;
 use sky_base::job::Job;
 use sky_base::kit::Kit;
 use sky_base::text::Memory;
@@ -46,11 +49,11 @@ pub struct Ran {
     pub journal: Vec<Entry>,
 }
 
-/// Runs a job on as many workers as the plan has, each with its gate, to the end of the run. Each of several workers is a thread; where
-/// there is one, orders are performed in the caller's. The first gates are the workers', and the others stay as they are.
+/// Runs a job on as many workers as the plan has, each with its gate, to the end of the run, on these hands. The first gates are the workers',
+/// and the others stay as they are.
 ///
-/// There are 1 to 64 workers. The end is `Memory` for want of memory. The workers' gates may then have entered tasks, and the others may be
-/// gone.
+/// There are 1 to 64 workers, and at most 64 threads are shared. The end is `Memory` for want of memory. The workers' gates may then have
+/// entered tasks, and the others may be gone.
 pub fn run_job<K, N, G, R>(
     rt: R,
     alloc: Global,
@@ -59,6 +62,7 @@ pub fn run_job<K, N, G, R>(
     namer: N,
     gates: &mut Vec<G>,
     plan: RunPlan,
+    hands: Hands,
 ) -> Ran
 where
     K: Kit + Send + Sync + Drop + 'static,
@@ -71,15 +75,13 @@ where
     requires workers { (0 < plan.workers) × (plan.workers ≤ 64) }
     requires gates { plan.workers ≤ length gates.old.items }
     requires losses { Each (λ (loss : ℕ × ℕ). loss.1 < plan.workers) plan.losses }
+    requires hands { IsFew hands }
     ensures end { EndsSo (N.digest namer) (job_view job) (K.gives kit) (plan_view plan) (map entry_view result.journal.items) result.end }
     ensures told { result.end ≢ RunEnd.Memory → ToldBy (map entry_view result.journal.items) (told_of G.entered plan.workers gates.old.items)
         (told_of G.entered plan.workers gates.new.items) }
     ensures others { result.end ≢ RunEnd.Memory → drop plan.workers gates.new.items ≡ drop plan.workers gates.old.items }
     ensures all { result.end ≢ RunEnd.Memory → length gates.new.items ≡ length gates.old.items }
 {
-    if plan.workers == 1 {
-        return run_inline(rt, alloc, job, kit, namer, gates, plan);
-    }
     let Ok(begun) = begin(alloc, job, kit, namer, gates, plan) else {
         return not_begun(alloc);
     };
@@ -90,7 +92,7 @@ where
         plan,
         seed,
     } = begun;
-    let (ran, back) = on_threads(rt, alloc, opened, own, plan, seed);
+    let (ran, back) = on_crew(rt, alloc, hands, opened, own, plan, seed);
     let (ran, all) = put_back(ran, back, others);
     *gates = all;
     ran
@@ -263,6 +265,50 @@ pub fn not_begun(alloc: Global) -> Ran
     }
 }
 
+/// Runs what was opened on these hands with these gates, and gives them back.
+fn on_crew<K, N, G, R>(
+    rt: R,
+    alloc: Global,
+    hands: Hands,
+    opened: Opened<K, N>,
+    gates: Vec<G>,
+    plan: Snapshot<RunPlan>,
+    seed: u64,
+) -> (Ran, Vec<G>)
+where
+    K: Kit + Send + Sync + Drop + 'static,
+    N: Namer + Send + Sync + Drop + 'static,
+    G: Gate + Send + 'static,
+    R: Threads + Wait + Copy + Send + Drop + 'static,
+    requires opened { IsOpened N.digest plan.value (arc_value opened.shop) opened.master opened.eyes.items }
+    requires read { IsRead (job_view (arc_value opened.shop).job).script }
+    requires inputs { InputsInOrder (job_view (arc_value opened.shop).job) }
+    requires seed { seed ≡ plan.value.seed }
+    requires gates { length gates.items ≡ plan.value.workers }
+    requires workers { (0 < plan.value.workers) × (plan.value.workers ≤ 64) }
+    requires hands { IsFew hands }
+    ensures end { EndsSo (N.digest (arc_value opened.shop).namer) (job_view (arc_value opened.shop).job) (K.gives (arc_value opened.shop).kit)
+        (plan_view plan.value) (map entry_view result.0.journal.items) result.0.end }
+    ensures told { result.0.end ≢ RunEnd.Memory
+        → ToldBy (map entry_view result.0.journal.items) (map G.entered gates.items) (map G.entered result.1.items) }
+    ensures all { result.0.end ≢ RunEnd.Memory → length result.1.items ≡ length gates.items }
+{
+    match hands {
+        Hands::Caller => {
+            let back = in_this_thread(rt, alloc, opened, gates, plan, seed);
+            back
+        }
+        Hands::Own => {
+            let back = on_threads(rt, alloc, opened, gates, plan, seed);
+            back
+        }
+        Hands::Shared(threads) => {
+            let back = on_shared(rt, alloc, threads, opened, gates, plan, seed);
+            back
+        }
+    }
+}
+
 /// Runs what was opened on a crew of threads with these gates, and hands them back.
 fn on_threads<K, N, G, R>(
     rt: R,
@@ -292,6 +338,42 @@ where
     functions_are_orderly();
     let Opened { shop, master, eyes } = opened;
     match Channels::open(rt, alloc, shop, gates, eyes) {
+        Ok(crew) => run_over(master, crew, seed),
+        Err((gates, Memory)) => (not_begun(alloc), gates),
+    }
+}
+
+/// Runs what was opened on so many threads, which all workers share, with these gates, and hands them back.
+fn on_shared<K, N, G, R>(
+    rt: R,
+    alloc: Global,
+    threads: u32,
+    opened: Opened<K, N>,
+    gates: Vec<G>,
+    plan: Snapshot<RunPlan>,
+    seed: u64,
+) -> (Ran, Vec<G>)
+where
+    K: Kit + Send + Sync + Drop + 'static,
+    N: Namer + Send + Sync + Drop + 'static,
+    G: Gate + Send + 'static,
+    R: Threads + Wait + Copy + Send + Drop + 'static,
+    requires opened { IsOpened N.digest plan.value (arc_value opened.shop) opened.master opened.eyes.items }
+    requires read { IsRead (job_view (arc_value opened.shop).job).script }
+    requires inputs { InputsInOrder (job_view (arc_value opened.shop).job) }
+    requires seed { seed ≡ plan.value.seed }
+    requires gates { length gates.items ≡ plan.value.workers }
+    requires workers { (0 < plan.value.workers) × (plan.value.workers ≤ 64) }
+    requires threads { threads ≤ 64 }
+    ensures end { EndsSo (N.digest (arc_value opened.shop).namer) (job_view (arc_value opened.shop).job) (K.gives (arc_value opened.shop).kit)
+        (plan_view plan.value) (map entry_view result.0.journal.items) result.0.end }
+    ensures told { result.0.end ≢ RunEnd.Memory
+        → ToldBy (map entry_view result.0.journal.items) (map G.entered gates.items) (map G.entered result.1.items) }
+    ensures all { result.0.end ≢ RunEnd.Memory → length result.1.items ≡ length gates.items }
+{
+    functions_are_orderly();
+    let Opened { shop, master, eyes } = opened;
+    match Steal::open(rt, alloc, shop, gates, eyes, threads) {
         Ok(crew) => run_over(master, crew, seed),
         Err((gates, Memory)) => (not_begun(alloc), gates),
     }

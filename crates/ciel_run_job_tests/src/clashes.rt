@@ -6,6 +6,7 @@ use ciel_gate::open::Open;
 use ciel_master::plan::{Losses, RunPlan};
 use ciel_master::stop::RunEnd;
 use ciel_name::name::WeakNamer;
+use ciel_run_job::hands::Hands;
 use ciel_run_job::run::{Ran, run_job};
 use line_kit::kit::LineKit;
 use sky_base::job::{Inputs, Job};
@@ -43,7 +44,16 @@ fn ran<R: Threads + Wait + Copy + Send + Drop + 'static>(
         seed: 0,
         losses: Losses::of(Vec::new(alloc)),
     };
-    Ok(run_job(rt, alloc, job, LineKit, WeakNamer(0), &mut gates, plan))
+    Ok(run_job(
+        rt,
+        alloc,
+        job,
+        LineKit,
+        WeakNamer(0),
+        &mut gates,
+        plan,
+        Hands::Caller,
+    ))
 }
 
 // The canonical bytes of the main call, and of the call `f` of 3.

@@ -13,5 +13,5 @@ mod squares;
 #[cfg(test)]
 mod too_many;
 
-pub use ciel_run_job::run;
+pub use ciel_run_job::{hands, run};
 pub use sky_machine_test_scripts::script;

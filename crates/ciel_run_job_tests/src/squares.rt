@@ -9,6 +9,7 @@ use crate::journal::{MAIN, OF_FOUR, OF_THREE, count_objects, objects_are_right, 
 use ciel_master::plan::RunPlan;
 use ciel_master::stop::RunEnd;
 use ciel_name::name::Sha1Namer;
+use ciel_run_job::hands::Hands;
 use ciel_run_job::run::{Ran, run_inline, run_job};
 use line_kit::kit::LineKit;
 use sky_base::name::Name;
@@ -93,7 +94,16 @@ fn ran_on_threads<R: Threads + Wait + Copy + Send + Drop + 'static>(
     let job = job(alloc)?;
     let mut gates = gates(alloc)?;
     let plan = plan(alloc, 2);
-    Ok(run_job(rt, alloc, job, LineKit, Sha1Namer, &mut gates, plan))
+    Ok(run_job(
+        rt,
+        alloc,
+        job,
+        LineKit,
+        Sha1Namer,
+        &mut gates,
+        plan,
+        Hands::Own,
+    ))
 }
 
 #[test]

@@ -16,7 +16,8 @@ use Rattle.ciel_run_line.specs.Resuming.{RefusesLog}
 use Rattle.ciel_run_line.specs.Runs.{EndsShown, IsDriven, RootEnds, digest_of, plan_of, told_of}
 use Rattle.ciel_run_line.specs.Source.{OfJob, job_of, over_lines}
 use Rattle.ciel_run_log.specs.declared.why.Why.{Why}
-use Rattle.ciel_log_file.specs.Whole.{BeginsAt, BeginsOther}
+use Rattle.ciel_log_file.specs.Whole.{BeginsOther}
+use Rattle.ciel_log_refuses.specs.Refusals.{IsBadAt}
 use Rattle.ciel_run_line.specs.Keeping.{header_of}
 use Rattle.line_kit.specs.Gives.{gives}
 use Rattle.ciel_io.proofs.Joined.{part_whole}
@@ -102,8 +103,8 @@ module _ (content : Files) (w : Words) (risen : Type 0) (J : List Entry) (read :
     refused t (Why.BadLog path at) f = λ e source inputs st. (
       (t source inputs st).0,
       of_job source inputs job (λ j. (bytes : List ℕ) → content path ≡ Some bytes
-          → BeginsAt bytes (header_of w source inputs) at) (t source inputs st).1
-          (λ bytes there. subst (λ (x : List ℕ × List Input). BeginsAt bytes (header_of w x.0 x.1) at)
+          → IsBadAt (digest_of w.names) j gives (plan_of w) (header_of w source inputs) bytes at) (t source inputs st).1
+          (λ bytes there. subst (λ (x : List ℕ × List Input). IsBadAt (digest_of w.names) job gives (plan_of w) (header_of w x.0 x.1) bytes at)
           (λ i. ((t source inputs st).2 i, (t source inputs st).1.1 i)) (f bytes (some path bytes e there))),
     )
     refused t (Why.OtherJob path) f = λ e source inputs st. (

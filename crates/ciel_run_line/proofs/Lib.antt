@@ -7,3 +7,4 @@ mod Last
 mod Onward
 mod Began
 mod Refused
+mod Shared

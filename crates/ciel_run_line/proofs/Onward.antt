@@ -5,8 +5,9 @@ use Rattle.sky_base.specs.See as s
 use Rattle.sky_base.specs.declared.object.TaskId.{TaskId}
 use Rattle.ciel_journal.specs.Entries.{Entry}
 use Rattle.ciel_journal.specs.History.{Plan}
-use Rattle.ciel_log_file.specs.Whole.{BeginsAt, BeginsOther}
+use Rattle.ciel_log_file.specs.Whole.{BeginsOther}
 use Rattle.ciel_log_follows.specs.Begins.{BeginsLog}
+use Rattle.ciel_log_refuses.specs.Refusals.{IsBadAt}
 use Rattle.ciel_master.specs.declared.stop.RunEnd.{RunEnd}
 use Rattle.ciel_run_line.specs.Answering.{end_view}
 use Rattle.ciel_run_line.specs.Asked.{NoRunOf}
@@ -101,8 +102,11 @@ module _ (w : Words) (source : List ℕ) (job : s.Job) (log header bytes : List 
   pub header_other : BeginsOther bytes header → BeginsOther log (header_of w source job.inputs)
   header_other o = subst (λ (x : List ℕ × List ℕ). BeginsOther x.0 x.1) (λ i. (bytes_is i, header_is i)) o
 
-  pub header_at : (at : ℕ) → BeginsAt bytes header at → BeginsAt log (header_of w source job.inputs) at
-  header_at at o = subst (λ (x : List ℕ × List ℕ). BeginsAt x.0 x.1 at) (λ i. (bytes_is i, header_is i)) o
+  pub bad_at : (at : ℕ) → IsBadAt (digest_of w.names) job gives plan header bytes at
+      → IsBadAt (digest_of w.names) job gives (plan_of w) (header_of w source job.inputs) log at
+  bad_at at o =
+      subst (λ (x : Plan × List ℕ × List ℕ). IsBadAt (digest_of w.names) job gives x.0 x.1 x.2 at)
+      (λ i. (plan_is i, header_is i, bytes_is i)) o
 
   abbrev Lists : Type 0
   Lists = List (Option (List TaskId))

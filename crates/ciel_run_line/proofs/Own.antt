@@ -10,16 +10,21 @@ use Rattle.ciel_journal.specs.History.{Plan}
 use Rattle.ciel_log_follows.specs.Begins.{BeginsLog}
 use Rattle.ciel_log_file.specs.Whole.{BeginsOther}
 use Rattle.ciel_log_records.specs.Records.{in_file}
+use Rattle.ciel_log_refuses.proofs.Refusals.{logs_have_no_bad_place}
 use Rattle.ciel_log_read.proofs.Pieces.{blocks_free}
 use Rattle.ciel_run_load.specs.Line.{Input}
 use Rattle.ciel_run_load.specs.Loading.{IsOf}
 use Rattle.ciel_run_logged.specs.Told.{ToldBy}
+use Rattle.ciel_run_line.specs.Causes.{HasBadRecord}
 use Rattle.ciel_run_line.specs.Gates.{GatesTell}
+use Rattle.ciel_run_line.specs.Keeping.{header_of}
 use Rattle.ciel_run_line.specs.Line.{FitsIn, OfJobFiles, OfLine, Stands, SurelyAt, files_of}
 use Rattle.ciel_run_line.specs.Resuming.{IsOwnLog, OnwardTold, OwnIfRead, ReplaysLog}
+use Rattle.ciel_run_line.specs.Runs.{digest_of, plan_of}
 use Rattle.ciel_run_line.specs.Source.{OfJob, job_of}
 use Rattle.ciel_run_line.proofs.Comes.{of_job}
 use Rattle.ciel_words.specs.declared.words.Words.{Words}
+use Rattle.line_kit.specs.Gives.{gives}
 
 -- a record that stands whole at the beginning of such a log is the header: no block begins another one
 pub not_other : (digest : List ℕ → List ℕ) (job : s.Job) (gives : Gives) (p : Plan) (header bytes : List ℕ)
@@ -31,6 +36,14 @@ not_other digest job gives p header bytes own other =
     let same : in_file first ++ (behind ++ rest) ≡ in_file header ++ own.log.rest =
     sym (append_assoc (in_file first) behind rest) ∙ ap (λ (x : List ℕ). x ++ rest) (sym other.2.here) ∙ own.prefix.1 ∙ own.log.all in
     other.3 (blocks_free first header (behind ++ rest) own.log.rest other.2.fits own.short same).0
+
+-- and none of its records is a bad one
+pub no_bad_record : (content : List ℕ → Option (List ℕ)) (w : Words) (path : List ℕ) (at : ℕ) → w.resume ≡ Some path → HasBadRecord content w path at
+    → (source : List ℕ) (inputs : List Input) → Stands content w source inputs → ⊥
+no_bad_record content w path at e bad source inputs st =
+    let x = bad source inputs st.there in
+    let own = st.own path e x.0 x.1.0 x.1.1 in
+    logs_have_no_bad_place (digest_of w.names) (job_of x.1.0 inputs) gives (plan_of w) (header_of w source inputs) own.0 at (x.1.2 own.0 own.1) own.2
 
 -- ---- the log that was read, where one was
 

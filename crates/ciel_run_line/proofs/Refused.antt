@@ -2,17 +2,19 @@
 use Rattle.std.proofs.Common.{◌≡◌, ◌≢◌, ◌⊎◌, ⊎_elim, ℕ, List, [], true, false, ap, inl, inr, Option, Some, None, Result, Ok, Err, IfErr, refl, sym, subst, ◌∙◌}
 use Rattle.sky_base.specs.See as s
 use Rattle.ciel_journal.specs.Entries.{Entry}
-use Rattle.ciel_log_file.specs.Whole.{BeginsAt, BeginsOther}
+use Rattle.ciel_log_file.specs.Whole.{BeginsOther}
+use Rattle.ciel_log_refuses.specs.Refusals.{IsBadAt}
 use Rattle.ciel_master.specs.declared.stop.RunEnd.{RunEnd}
 use Rattle.ciel_run_line.specs.Answering.{WhyNot, end_view}
 use Rattle.ciel_run_line.specs.Asked.{NoRunOf}
 use Rattle.ciel_run_line.specs.Causes.{AnswersSo, Way, WaySo}
 use Rattle.ciel_run_line.specs.Keeping.{header_of}
 use Rattle.ciel_run_line.specs.Resuming.{RefusesLog}
-use Rattle.ciel_run_line.specs.Runs.{log_path}
+use Rattle.ciel_run_line.specs.Runs.{digest_of, log_path, plan_of}
 use Rattle.ciel_run_log.specs.declared.why.Why.{Why}
 use Rattle.ciel_run_resumed.specs.declared.run.NotResumed.{NotResumed}
 use Rattle.ciel_words.specs.declared.words.Words.{Words}
+use Rattle.line_kit.specs.Gives.{gives}
 
 -- what is so of each end that it may have, by what was said of the log
 pub by_why : (path : List ℕ) (P : NotResumed → Why → Type 0) → P NotResumed.OtherJob (Why.OtherJob path)
@@ -59,12 +61,14 @@ module _ (w : Words) (path : List ℕ) (not : NotResumed) (why : Why) (y : WhyNo
 
   -- why the log wasn't gone on from
   module _ (source : List ℕ) (job : s.Job) (log : List ℕ) (other : not ≡ NotResumed.OtherJob → BeginsOther log (header_of w source job.inputs))
-      (bad : (at : ℕ) → not ≡ NotResumed.BadLog at → BeginsAt log (header_of w source job.inputs) at) where
+      (bad : (at : ℕ) → not ≡ NotResumed.BadLog at
+      → IsBadAt (digest_of w.names) job gives (plan_of w) (header_of w source job.inputs) log at) where
     pub refused_cause : RefusesLog w source job (Some log) why
     refused_cause =
         by_why path (λ n e. n ≡ not → RefusesLog w source job (Some log) e)
         (λ is bytes same. subst (λ (b : List ℕ). BeginsOther b (header_of w source job.inputs)) (some_same log bytes same) (other (sym is)))
-        (λ at is bytes same. subst (λ (b : List ℕ). BeginsAt b (header_of w source job.inputs) at) (some_same log bytes same) (bad at (sym is)))
+        (λ at is bytes same. subst (λ (b : List ℕ). IsBadAt (digest_of w.names) job gives (plan_of w) (header_of w source job.inputs) b at)
+        (some_same log bytes same) (bad at (sym is)))
         (λ is. tt) (λ n is. tt) not why y refl
       where
         some_same : (a b : List ℕ) → Some a ≡ Some b → a ≡ b

@@ -9,7 +9,8 @@ use Rattle.sky_base.specs.declared.object.Named.{Named}
 use Rattle.ciel_journal.specs.Entries.{Entry}
 use Rattle.ciel_journal.specs.Job.{Digest}
 use Rattle.ciel_journal.specs.Journals.{CircleOf, DrivenJournal}
-use Rattle.ciel_log_file.specs.Whole.{BeginsAt, BeginsOther}
+use Rattle.ciel_log_file.specs.Whole.{BeginsOther}
+use Rattle.ciel_log_refuses.specs.Refusals.{IsBadAt}
 use Rattle.ciel_run_load.specs.Found.{Holds, IsOver, IsTooLong, PassesIfTold}
 use Rattle.ciel_run_load.specs.Line as files
 use Rattle.ciel_run_load.specs.Line.{Input}
@@ -117,10 +118,11 @@ module _ (content : List ℕ → Option (List ℕ)) (w : Words) where
       OfJobFiles content w (λ source inputs. FitsIn (files_of w) source inputs
       × OfJob source inputs (λ job. (bytes : List ℕ) → content path ≡ Some bytes → P source inputs job bytes))
 
-  -- behind the header of this line and whole records, a whole record of the log begins at this place
+  -- behind the header of this line and whole records, a whole record of the log begins at this place; and the records up to and with that one
+  -- begin no log of a run of this line
   abbrev pub HasBadRecord : List ℕ → ℕ → Type 0
   HasBadRecord path at =
-      OfLog path (λ source inputs job bytes. BeginsAt bytes (header_of w source inputs) at)
+      OfLog path (λ source inputs job bytes. IsBadAt (digest_of w.names) job gives (plan_of w) (header_of w source inputs) bytes at)
 
   -- its first record is whole and isn't the header of this line
   abbrev pub HasOtherHeader : List ℕ → Type 0

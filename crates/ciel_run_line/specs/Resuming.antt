@@ -4,7 +4,8 @@ use Rattle.sky_base.specs.See as s
 use Rattle.sky_base.specs.declared.object.TaskId.{TaskId}
 use Rattle.ciel_journal.specs.Entries.{Entry}
 use Rattle.ciel_log_follows.specs.Begins.{BeginsLog}
-use Rattle.ciel_log_file.specs.Whole.{BeginsAt, BeginsOther}
+use Rattle.ciel_log_file.specs.Whole.{BeginsOther}
+use Rattle.ciel_log_refuses.specs.Refusals.{IsBadAt}
 use Rattle.ciel_run_load.specs.Line.{Input}
 use Rattle.ciel_run_log.specs.declared.why.Why.{Why}
 use Rattle.ciel_run_resumed.specs.Gates.{ToldSince}
@@ -27,10 +28,10 @@ module _ (w : Words) (source : List ℕ) (inputs : List Input) (job : s.Job) whe
   abbrev pub OwnIfRead : Option (List ℕ) → Type 0
   OwnIfRead log = (bytes : List ℕ) → log ≡ Some bytes → IsOwnLog bytes
 
--- why the log wasn't gone on from: a whole record stands there, behind whole ones; or its header is another one
+-- why the log wasn't gone on from: the record there is a bad one; or its header is another one
 abbrev pub RefusesLog : Words → (source : List ℕ) → s.Job → Option (List ℕ) → Why → Type 0
 RefusesLog w source job log (Why.BadLog path at) =
-    (bytes : List ℕ) → log ≡ Some bytes → BeginsAt bytes (header_of w source job.inputs) at
+    (bytes : List ℕ) → log ≡ Some bytes → IsBadAt (digest_of w.names) job gives (plan_of w) (header_of w source job.inputs) bytes at
 RefusesLog w source job log (Why.OtherJob path) = (bytes : List ℕ) → log ≡ Some bytes → BeginsOther bytes (header_of w source job.inputs)
 RefusesLog w source job log _ = Unit {0}
 

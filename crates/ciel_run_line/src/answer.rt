@@ -17,9 +17,11 @@ ghost use Rattle.ciel_run_load.specs.Line.{Input, keys_of};
 ghost use Rattle.ciel_run_load.specs.Loading.{IsOf};
 ghost use Rattle.ciel_journal.specs.Entries.{Entry as Line};
 ghost use Rattle.ciel_log_follows.specs.Begins.{BeginsLog};
-ghost use Rattle.ciel_log_file.specs.Whole.{BeginsAt, BeginsOther};
+ghost use Rattle.ciel_log_file.specs.Whole.{BeginsOther};
+ghost use Rattle.ciel_log_refuses.specs.Refusals.{IsBadAt};
 ghost use Rattle.ciel_log_records.specs.Records.{in_file};
 ghost use Rattle.ciel_run_logged.specs.Keeping.{IfOver, Keeps};
+ghost use Rattle.ciel_run_logged.specs.Kinds.{IsFew};
 ghost use Rattle.ciel_run_resumed.specs.Gates.{ToldSince};
 ghost use Rattle.ciel_run_resumed.specs.Keeping.{KeptBy};
 ghost use Rattle.ciel_run_resumed.specs.Resuming.{FileTells, RefusesSo, Replays};
@@ -48,6 +50,7 @@ use ciel_master::stop::RunEnd;
 use ciel_name::name::{Sha1Namer, Sha256Namer};
 use ciel_run_load::load::Loaded;
 use ciel_run_log::why::Why;
+use ciel_run_logged::hands::Hands;
 use ciel_run_logged::run::{Begins, RanLogged, run_logged};
 use ciel_run_logged::run_job_run::{Ran, run_job};
 use ciel_run_resumed::run::{NotResumed, Resumes, run_resumed};
@@ -123,6 +126,7 @@ fn run<G, R>(
     job: Job,
     gates: &mut Vec<G>,
     plan: RunPlan,
+    hands: Hands,
 ) -> Ran
 where
     G: Gate + Send + 'static,
@@ -131,6 +135,7 @@ where
     requires workers { (0 < plan.workers) × (plan.workers ≤ 64) }
     requires losses { Each (λ (loss : ℕ × ℕ). loss.1 < plan.workers) plan.losses }
     requires gates { length gates.old.items ≡ 64 }
+    requires hands { IsFew hands }
     ensures end { EndsSo (digest_of names) (job_view job) gives (plan_view plan) (map entry_view result.journal.items) result.end }
     ensures told { result.end ≢ RunEnd.Memory → ToldBy (map entry_view result.journal.items) (told_of G.entered plan.workers gates.old.items)
         (told_of G.entered plan.workers gates.new.items) }
@@ -138,8 +143,8 @@ where
     ensures all { result.end ≢ RunEnd.Memory → length gates.new.items ≡ 64 }
 {
     match names {
-        NameKind::Sha1 => run_job(rt, alloc, job, FlowKit, Sha1Namer, gates, plan),
-        NameKind::Sha256 => run_job(rt, alloc, job, FlowKit, Sha256Namer, gates, plan),
+        NameKind::Sha1 => run_job(rt, alloc, job, FlowKit, Sha1Namer, gates, plan, hands),
+        NameKind::Sha256 => run_job(rt, alloc, job, FlowKit, Sha256Namer, gates, plan, hands),
     }
 }
 
@@ -151,6 +156,7 @@ fn run_with_log<G, D, R>(
     job: Job,
     gates: &mut Vec<G>,
     plan: RunPlan,
+    hands: Hands,
     keep: &mut D,
     log: Begins,
 ) -> RanLogged
@@ -163,6 +169,7 @@ where
     requires losses { Each (λ (loss : ℕ × ℕ). loss.1 < plan.workers) plan.losses }
     requires gates { length gates.old.items ≡ 64 }
     requires held { log.held ≤ most }
+    requires hands { IsFew hands }
     ensures end { EndsSo (digest_of names) (job_view job) gives (plan_view plan) (map entry_view result.ran.journal.items) result.ran.end }
     ensures told { result.ran.end ≢ RunEnd.Memory
         → ToldBy (map entry_view result.ran.journal.items) (told_of G.entered plan.workers gates.old.items)
@@ -176,7 +183,9 @@ where
         (D.files keep.new) (map entry_view result.ran.journal.items) result.state) }
 {
     match names {
-        NameKind::Sha1 => run_logged(rt, alloc, job, FlowKit, Sha1Namer, gates, plan, keep, log),
+        NameKind::Sha1 => run_logged(
+            rt, alloc, job, FlowKit, Sha1Namer, gates, plan, hands, keep, log,
+        ),
         NameKind::Sha256 => run_logged(
             rt,
             alloc,
@@ -185,6 +194,7 @@ where
             Sha256Namer,
             gates,
             plan,
+            hands,
             keep,
             log,
         ),
@@ -212,6 +222,7 @@ fn answer_with_log<G, D, R>(
     path: &Txt,
     loaded: Loaded,
     plan: RunPlan,
+    hands: Hands,
     gates: &mut Vec<G>,
     keep: &mut D,
 ) -> Answered
@@ -227,6 +238,7 @@ where
     requires keys { AllByRecursion (λ (i : List ℕ × List ℕ). length i.0 ≤ most_name) (job_view loaded.job).inputs }
     requires few { length (job_view loaded.job).inputs ≤ most_inputs }
     requires gates { length gates.old.items ≡ 64 }
+    requires hands { IsFew hands }
     ensures answers { AnswersSo line.now (map entry_view result.journal.items) (job_view loaded.job) result.result }
     ensures ways { WaySo line.now (map entry_view result.journal.items) result.result }
     ensures told { result.result ≢ Err Why.Memory
@@ -249,7 +261,7 @@ where
     let RanLogged {
         ran: Ran { end, journal },
         state,
-    } = run_with_log(rt, alloc, line.names, job, gates, plan, keep, log);
+    } = run_with_log(rt, alloc, line.names, job, gates, plan, hands, keep, log);
     Answered {
         result: end_of(end),
         journal,
@@ -265,6 +277,7 @@ fn run_from_log<G, D, R>(
     job: Job,
     gates: &mut Vec<G>,
     plan: RunPlan,
+    hands: Hands,
     keep: &mut D,
     resumes: Resumes<'_>,
 ) -> Result<RanLogged, NotResumed>
@@ -278,10 +291,12 @@ where
     requires gates { length gates.old.items ≡ 64 }
     requires short { length (in_file resumes.header.now) ≤ most }
     requires log { length resumes.log.now ≤ most }
+    requires hands { IsFew hands }
     ensures other { result ≡ Err NotResumedSeen.OtherJob → BeginsOther resumes.entry.log.now resumes.entry.header.now }
     ensures of_other { BeginsOther resumes.entry.log.now resumes.entry.header.now
         → (result ≡ Err NotResumedSeen.OtherJob) ⊎ (result ≡ Err NotResumedSeen.Memory) }
-    ensures bad { (at : ℕ) → result ≡ Err (NotResumedSeen.BadLog at) → BeginsAt resumes.entry.log.now resumes.entry.header.now at }
+    ensures bad { (at : ℕ) → result ≡ Err (NotResumedSeen.BadLog at)
+        → IsBadAt (digest_of names) (job_view job) gives (plan_view plan) resumes.entry.header.now resumes.entry.log.now at }
     ensures kept { IfErr result (λ why. why ≢ NotResumedSeen.Memory → gates.new ≡ gates.old) }
     ensures refused { IfErr result (λ why. RefusesSo resumes.entry.path
         (record { files = D.files keep.old; asked = D.asked keep.old; faults = D.faults keep.old })
@@ -304,7 +319,7 @@ where
 {
     match names {
         NameKind::Sha1 => run_resumed(
-            rt, alloc, job, FlowKit, Sha1Namer, gates, plan, keep, resumes,
+            rt, alloc, job, FlowKit, Sha1Namer, gates, plan, hands, keep, resumes,
         ),
         NameKind::Sha256 => run_resumed(
             rt,
@@ -314,6 +329,7 @@ where
             Sha256Namer,
             gates,
             plan,
+            hands,
             keep,
             resumes,
         ),
@@ -344,6 +360,7 @@ fn answer_from_log<G, D, R>(
     loaded: Loaded,
     log: &Bytes,
     plan: RunPlan,
+    hands: Hands,
     gates: &mut Vec<G>,
     keep: &mut D,
 ) -> Answered
@@ -360,6 +377,7 @@ where
     requires few { length (job_view loaded.job).inputs ≤ most_inputs }
     requires gates { length gates.old.items ≡ 64 }
     requires log { length log.now ≤ most }
+    requires hands { IsFew hands }
     ensures answers { OwnIfRead line.now loaded.source (job_view loaded.job).inputs (job_view loaded.job) (Some log.now)
         → AnswersSo line.now (map entry_view result.journal.items) (job_view loaded.job) result.result }
     ensures ways { WaySo line.now (map entry_view result.journal.items) result.result }
@@ -390,7 +408,9 @@ where
         header: header.as_slice(),
         log: log.as_slice(),
     };
-    match run_from_log(rt, alloc, line.names, job, gates, plan, keep, resumes) {
+    match run_from_log(
+        rt, alloc, line.names, job, gates, plan, hands, keep, resumes,
+    ) {
         Ok(logged) => {
             let RanLogged {
                 ran: Ran { end, journal },
@@ -461,14 +481,15 @@ where
     let Ok(plan) = plan(alloc, line) else {
         return not_run(alloc, Why::Memory);
     };
+    let hands = Hands::of(line.workers, line.steal);
     if let Some(path) = &line.log {
-        return answer_with_log(rt, alloc, line, path, loaded, plan, gates, keep);
+        return answer_with_log(rt, alloc, line, path, loaded, plan, hands, gates, keep);
     }
     if let Some(path) = &line.resume {
         let Some(log) = &log else { unreachable!() };
-        return answer_from_log(rt, alloc, line, path, loaded, log, plan, gates, keep);
+        return answer_from_log(rt, alloc, line, path, loaded, log, plan, hands, gates, keep);
     }
-    let Ran { end, journal } = run(rt, alloc, line.names, loaded.job, gates, plan);
+    let Ran { end, journal } = run(rt, alloc, line.names, loaded.job, gates, plan, hands);
     Answered {
         result: end_of(end),
         journal,

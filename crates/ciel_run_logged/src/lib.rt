@@ -8,4 +8,4 @@
 pub mod run;
 
 pub use ciel_log_law::{draws, drive};
-pub use ciel_run_job::{law, run as run_job_run};
+pub use ciel_run_job::{hands, law, run as run_job_run};

@@ -3,6 +3,7 @@
 ghost use Rattle.std.specs.Prelude.{◌≡◌, ◌≢◌, ◌≤◌, ◌<◌, ◌^◌, ℕ, [], drop, length, map};
 ghost use Rattle.std.specs.Arc.{arc_value};
 ghost use Rattle.sky_base.specs.JobView.{job_view};
+ghost use Rattle.ciel_run_job.specs.Kinds.{IsFew};
 ghost use Rattle.ciel_run_job.specs.Onward.{IsRead};
 ghost use Rattle.ciel_journal.specs.Job.{Each};
 ghost use Rattle.ciel_task_crew.specs.Seen.{AllLook};
@@ -30,9 +31,11 @@ use ciel_log_law::plan::RunPlan;
 use ciel_log_law::state::LogState;
 use ciel_name::name::Namer;
 use ciel_run_job::channels::Channels;
+use ciel_run_job::hands::Hands;
 use ciel_run_job::inline::Inline;
 use ciel_run_job::opening::Opened;
 use ciel_run_job::run::{Begun, Ran, begin, not_begun, put_back};
+use ciel_run_job::steal::Steal;
 use ciel_store::seats::Eye;
 use ciel_task_crew::crew::Crew;
 use ciel_task_order::shop::Shop;
@@ -62,8 +65,8 @@ pub struct Begins {
 /// Runs a job as `run_job` does, and puts a record behind the log of each order before it is sent, and of each report before it is handed
 /// out. Where the log can't, the run goes on without it.
 ///
-/// There are 1 to 64 workers. The end is `Memory` for want of memory. The workers' gates may then have entered tasks, and the others may be
-/// gone.
+/// There are 1 to 64 workers, and at most 64 threads are shared. The end is `Memory` for want of memory. The workers' gates may then have
+/// entered tasks, and the others may be gone.
 pub fn run_logged<K, N, G, D, R>(
     rt: R,
     alloc: Global,
@@ -72,6 +75,7 @@ pub fn run_logged<K, N, G, D, R>(
     namer: N,
     gates: &mut Vec<G>,
     plan: RunPlan,
+    hands: Hands,
     keep: &mut D,
     log: Begins,
 ) -> RanLogged
@@ -88,6 +92,7 @@ where
     requires gates { plan.workers ≤ length gates.old.items }
     requires losses { Each (λ (loss : ℕ × ℕ). loss.1 < plan.workers) plan.losses }
     requires held { log.held ≤ most }
+    requires hands { IsFew hands }
     ensures end { EndsSo (N.digest namer) (job_view job) (K.gives kit) (plan_view plan) (map entry_view result.ran.journal.items) result.ran.end }
     ensures told { result.ran.end ≢ RunEnd.Memory
         → ToldBy (map entry_view result.ran.journal.items) (told_of G.entered plan.workers gates.old.items)
@@ -100,7 +105,6 @@ where
     ensures written { IfOver result.ran.end (LogWritten (N.digest namer) (job_view job) (K.gives kit) (plan_view plan) log.path log.held (D.files keep.old)
         (D.files keep.new) (map entry_view result.ran.journal.items) result.state) }
 {
-    let alone = plan.workers == 1;
     let Ok(begun) = begin(alloc, job, kit, namer, gates, plan) else {
         return no_run(alloc);
     };
@@ -111,7 +115,7 @@ where
         plan,
         seed,
     } = begun;
-    let (logged, back) = on_crew(rt, alloc, alone, opened, own, plan, seed, keep, log);
+    let (logged, back) = on_crew(rt, alloc, hands, opened, own, plan, seed, keep, log);
     let RanLogged { ran, state } = logged;
     let (ran, all) = put_back(ran, back, others);
     *gates = all;
@@ -129,11 +133,11 @@ pub fn no_run(alloc: Global) -> RanLogged
     }
 }
 
-/// Runs what was opened with these gates, in this thread or on threads, and hands them back.
+/// Runs what was opened on these hands with these gates, and gives them back.
 fn on_crew<K, N, G, D, R>(
     rt: R,
     alloc: Global,
-    alone: bool,
+    hands: Hands,
     opened: Opened<K, N>,
     gates: Vec<G>,
     plan: Snapshot<RunPlan>,
@@ -154,6 +158,7 @@ where
     requires gates { length gates.items ≡ plan.value.workers }
     requires workers { (0 < plan.value.workers) × (plan.value.workers ≤ 64) }
     requires held { log.held ≤ most }
+    requires hands { IsFew hands }
     ensures end { EndsSo (N.digest (arc_value opened.shop).namer) (job_view (arc_value opened.shop).job) (K.gives (arc_value opened.shop).kit)
         (plan_view plan.value) (map entry_view result.0.ran.journal.items) result.0.ran.end }
     ensures told { result.0.ran.end ≢ RunEnd.Memory
@@ -166,12 +171,20 @@ where
         (K.gives (arc_value opened.shop).kit) (plan_view plan.value) log.path log.held (D.files keep.old) (D.files keep.new)
         (map entry_view result.0.ran.journal.items) result.0.state) }
 {
-    if alone {
-        let back = in_this_thread(rt, alloc, opened, gates, plan, seed, keep, log);
-        return back;
+    match hands {
+        Hands::Caller => {
+            let back = in_this_thread(rt, alloc, opened, gates, plan, seed, keep, log);
+            back
+        }
+        Hands::Own => {
+            let back = on_threads(rt, alloc, opened, gates, plan, seed, keep, log);
+            back
+        }
+        Hands::Shared(threads) => {
+            let back = on_shared(rt, alloc, threads, opened, gates, plan, seed, keep, log);
+            back
+        }
     }
-    let back = on_threads(rt, alloc, opened, gates, plan, seed, keep, log);
-    back
 }
 
 /// Runs what was opened on a crew of threads with these gates, and hands them back.
@@ -221,6 +234,60 @@ where
         return (no_run(alloc), gates);
     };
     match Channels::open(rt, alloc, shop, gates, eyes) {
+        Ok(crew) => run_over(alloc, master, crew, seed, shared, eye, keep, log),
+        Err((gates, Memory)) => (no_run(alloc), gates),
+    }
+}
+
+/// Runs what was opened on so many threads, which all workers share, with these gates, and hands them back.
+fn on_shared<K, N, G, D, R>(
+    rt: R,
+    alloc: Global,
+    threads: u32,
+    opened: Opened<K, N>,
+    gates: Vec<G>,
+    plan: Snapshot<RunPlan>,
+    seed: u64,
+    keep: &mut D,
+    log: Begins,
+) -> (RanLogged, Vec<G>)
+where
+    K: Kit + Send + Sync + Drop + 'static,
+    N: Namer + Send + Sync + Drop + 'static,
+    G: Gate + Send + 'static,
+    D: Keep,
+    R: Threads + Wait + Copy + Send + Drop + 'static,
+    requires opened { IsOpened N.digest plan.value (arc_value opened.shop) opened.master opened.eyes.items }
+    requires read { IsRead (job_view (arc_value opened.shop).job).script }
+    requires inputs { InputsInOrder (job_view (arc_value opened.shop).job) }
+    requires seed { seed ≡ plan.value.seed }
+    requires gates { length gates.items ≡ plan.value.workers }
+    requires workers { (0 < plan.value.workers) × (plan.value.workers ≤ 64) }
+    requires held { log.held ≤ most }
+    requires threads { threads ≤ 64 }
+    ensures end { EndsSo (N.digest (arc_value opened.shop).namer) (job_view (arc_value opened.shop).job) (K.gives (arc_value opened.shop).kit)
+        (plan_view plan.value) (map entry_view result.0.ran.journal.items) result.0.ran.end }
+    ensures told { result.0.ran.end ≢ RunEnd.Memory
+        → ToldBy (map entry_view result.0.ran.journal.items) (map G.entered gates.items) (map G.entered result.1.items) }
+    ensures all { result.0.ran.end ≢ RunEnd.Memory → length result.1.items ≡ length gates.items }
+    ensures keeps { result.0.ran.end ≢ RunEnd.Memory → Keeps log.path log.held
+        (record { files = D.files keep.old; asked = D.asked keep.old; faults = D.faults keep.old })
+        (record { files = D.files keep.new; asked = D.asked keep.new; faults = D.faults keep.new }) result.0.state }
+    ensures written { IfOver result.0.ran.end (LogWritten (N.digest (arc_value opened.shop).namer) (job_view (arc_value opened.shop).job)
+        (K.gives (arc_value opened.shop).kit) (plan_view plan.value) log.path log.held (D.files keep.old) (D.files keep.new)
+        (map entry_view result.0.ran.journal.items) result.0.state) }
+{
+    functions_are_orderly();
+    let Opened {
+        shop,
+        master,
+        mut eyes,
+    } = opened;
+    let eye = another_eye(&shop, &mut eyes);
+    let Ok(shared) = Arc::try_clone(&shop) else {
+        return (no_run(alloc), gates);
+    };
+    match Steal::open(rt, alloc, shop, gates, eyes, threads) {
         Ok(crew) => run_over(alloc, master, crew, seed, shared, eye, keep, log),
         Err((gates, Memory)) => (no_run(alloc), gates),
     }

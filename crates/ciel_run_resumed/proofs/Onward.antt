@@ -1,6 +1,6 @@
 -- Where a replay came to is where a run goes on from.
-use Rattle.std.proofs.Common.{◌≡◌, ◌*◌, ℕ, List, Option, Some, None, true, sym, subst}
-use Rattle.std.specs.Prelude.{IfNone, IfSome}
+use Rattle.std.proofs.Common.{◌≡◌, ◌*◌, ℕ, List, Option, Some, None, Result, Ok, Err, true, sym, subst, ◌∙◌}
+use Rattle.std.specs.Prelude.{IfNone, IfSome, IsErrAnd}
 use Rattle.sky_base.specs.KitView.{Gives}
 use Rattle.ciel_journal.specs.History.{Plan}
 use Rattle.ciel_journal.specs.Turns.{state_after}
@@ -10,8 +10,24 @@ use Rattle.ciel_log_law.specs.RunEnd.{RunEnd}
 use Rattle.ciel_log_law.specs.Seen.{MasterSeen}
 use Rattle.ciel_log_replay.specs.Between.{Between}
 use Rattle.ciel_run_resumed.specs.Resuming.{Stood, WorksOn}
+use Rattle.ciel_run_resumed.specs.declared.run.NotResumed.{NotResumed}
 use Rattle.ciel_task_order.specs.declared.order.Order.{Order}
 use Rattle.ciel_task_order.specs.declared.shop.Shop.{Shop}
+
+-- ---- a bad place
+
+-- the place that is told, if one is
+abbrev pub place_of : {A : Type 0} → Result A NotResumed → ℕ
+place_of (Err (NotResumed.BadLog at)) = at
+place_of r = 0
+
+-- what is handed on as it was
+pub handed_on : {A : Type 0} (r : Result A NotResumed) (e : NotResumed) (at : ℕ) → IsErrAnd r (λ y. y ≡ e) → r ≡ Err (NotResumed.BadLog at)
+    → e ≡ NotResumed.BadLog at
+handed_on (Ok x) e at h q = absurd h
+handed_on (Err y) e at h q = let same : y ≡ NotResumed.BadLog at = cc in sym h ∙ same
+
+-- ---- where it goes on
 
 -- the master with these orders, the end of the log, and the state of the generator of draws
 module _ {K N : Type 0} (gives : K → Gives) (digest : N → List ℕ → List ℕ) (shop : Shop K N) (m : MasterSeen N) (out : List (Option Order))

@@ -3,6 +3,7 @@
 ghost use Rattle.std.specs.Prelude.{◌≡◌, ◌≢◌, ◌≤◌, ◌⊎◌, ◌<◌, ◌^◌, ◌∷◌, ℕ, List, [], Err, IfErr, IfNone, IfOk, IfSome, None, OnOk, drop, length, map, true};
 ghost use Rattle.std.specs.Arc.{arc_value};
 ghost use Rattle.sky_base.specs.JobView.{job_view};
+ghost use Rattle.ciel_run_job.specs.Kinds.{IsFew};
 ghost use Rattle.ciel_run_job.specs.Onward.{IsRead};
 ghost use Rattle.ciel_journal.specs.Entries.{Entry};
 ghost use Rattle.ciel_journal.specs.Job.{Each};
@@ -22,7 +23,8 @@ ghost use Rattle.ciel_log_law.specs.Told.{LogContinued};
 ghost use Rattle.ciel_log_law.specs.LogState.{LogState as State};
 ghost use Rattle.ciel_log_follows.specs.Begins.{BeginsLog};
 ghost use Rattle.ciel_log_file.specs.Sending.{CanSend, nobody, sent_to};
-ghost use Rattle.ciel_log_file.specs.Whole.{BeginsAt, BeginsOther};
+ghost use Rattle.ciel_log_file.specs.Whole.{BeginsOther};
+ghost use Rattle.ciel_log_refuses.specs.Refusals.{IsBadAt};
 ghost use Rattle.ciel_run_logged.specs.Keeping.{IfOver, Keeps};
 ghost use Rattle.ciel_task_crew.specs.Crews.{FadesEach, Takes};
 ghost use Rattle.ciel_task_crew.specs.Seen.{AllLook};
@@ -45,13 +47,16 @@ use ciel_log_law::logged::{Closed, Logged};
 use ciel_log_law::master::Master;
 use ciel_log_law::plan::RunPlan;
 use ciel_log_law::state::LogState;
+use ciel_log_refuses::law::logs_are_replayed;
 use ciel_master::stop::RunEnd;
 use ciel_name::name::Namer;
 use ciel_run_job::channels::Channels;
 use ciel_run_job::gates::set_aside;
+use ciel_run_job::hands::Hands;
 use ciel_run_job::inline::Inline;
 use ciel_run_job::opening::{Opened, open};
 use ciel_run_job::run::{Ran, put_back};
+use ciel_run_job::steal::Steal;
 use ciel_run_logged::run::{Begins, RanLogged, another_eye, handed_back, no_run};
 use ciel_store::seats::Eye;
 use ciel_task_crew::crew::Crew;
@@ -100,10 +105,10 @@ struct Onward {
 /// Runs a job as `run_logged` does, from where the log of a run of it stands: the orders that are out there are sent again, and what comes
 /// then is put behind the whole records of the log, which come in the place of its file before.
 ///
-/// There are 1 to 64 workers. Answers `OtherJob` exactly where the log's first record is whole and isn't the header, `BadLog` where a record
-/// can't stand in a log of this job, `Failed` only where the keeper failed, and `Memory` for want of memory; nothing has run then, and but for
-/// want of memory no gate was touched. The end is `Memory` for want of memory. The workers' gates may then have entered tasks, and the others
-/// may be gone.
+/// There are 1 to 64 workers, and at most 64 threads are shared. Answers `OtherJob` exactly where the log's first record is whole and isn't the
+/// header, `BadLog` only where the records up to and with that one begin no log of a run of this job, `Failed` only where the keeper failed,
+/// and `Memory` for want of memory; nothing has run then, and but for want of memory no gate was touched. The end is `Memory` for want of
+/// memory. The workers' gates may then have entered tasks, and the others may be gone.
 pub fn run_resumed<K, N, G, D, R>(
     rt: R,
     alloc: Global,
@@ -112,6 +117,7 @@ pub fn run_resumed<K, N, G, D, R>(
     namer: N,
     gates: &mut Vec<G>,
     plan: RunPlan,
+    hands: Hands,
     keep: &mut D,
     resumes: Resumes<'_>,
 ) -> Result<RanLogged, NotResumed>
@@ -127,13 +133,15 @@ where
     requires workers { (0 < plan.workers) × (plan.workers ≤ 64) }
     requires gates { plan.workers ≤ length gates.old.items }
     requires losses { Each (λ (loss : ℕ × ℕ). loss.1 < plan.workers) plan.losses }
+    requires hands { IsFew hands }
     requires short { length (in_file resumes.header.now) ≤ most }
     requires log { length resumes.log.now ≤ most }
 
     // A log that isn't gone on from.
     ensures other { result ≡ Err NotResumed.OtherJob → BeginsOther resumes.entry.log.now resumes.entry.header.now }
     ensures of_other { BeginsOther resumes.entry.log.now resumes.entry.header.now → (result ≡ Err NotResumed.OtherJob) ⊎ (result ≡ Err NotResumed.Memory) }
-    ensures bad { (at : ℕ) → result ≡ Err (NotResumed.BadLog at) → BeginsAt resumes.entry.log.now resumes.entry.header.now at }
+    ensures bad { (at : ℕ) → result ≡ Err (NotResumed.BadLog at) → IsBadAt (N.digest namer) (job_view job) (K.gives kit) (plan_view plan)
+        resumes.entry.header.now resumes.entry.log.now at }
     ensures kept { IfErr result (λ why. why ≢ NotResumed.Memory → gates.new ≡ gates.old) }
     ensures refused { IfErr result (λ why. RefusesSo resumes.entry.path
         (record { files = D.files keep.old; asked = D.asked keep.old; faults = D.faults keep.old })
@@ -159,7 +167,6 @@ where
         (record { files = D.files keep.new; asked = D.asked keep.new; faults = D.faults keep.new }) r.state) }
 {
     functions_are_orderly();
-    let alone = plan.workers == 1;
     let workers = plan.workers as usize;
     let planned = Snapshot::of(&plan);
     let Ok(mut opened) = open(alloc, job, kit, namer, plan) else {
@@ -170,7 +177,7 @@ where
         return Err(NotResumed::Memory);
     };
     let own = mem::replace(gates, Vec::new(alloc));
-    let (logged, back) = on_crew(rt, alloc, alone, opened, own, planned, keep, onward);
+    let (logged, back) = on_crew(rt, alloc, hands, opened, own, planned, keep, onward);
     let RanLogged { ran, state } = logged;
     let (ran, all) = put_back(ran, back, others);
     *gates = all;
@@ -192,7 +199,10 @@ fn go_back<K: Kit + Drop, N: Namer + Drop, D: Keep, R: Wait>(
     requires log { length resumes.log.now ≤ most }
     ensures other { result ≡ Err NotResumed.OtherJob → BeginsOther resumes.entry.log.now resumes.entry.header.now }
     ensures of_other { BeginsOther resumes.entry.log.now resumes.entry.header.now → result ≡ Err NotResumed.OtherJob }
-    ensures bad { (at : ℕ) → result ≡ Err (NotResumed.BadLog at) → BeginsAt resumes.entry.log.now resumes.entry.header.now at }
+    ensures bad { Kept K.gives N.digest shop.now true master.old (nobody master.old.board.plan.workers) master.old.board.plan.seed
+        → (at : ℕ) → result ≡ Err (NotResumed.BadLog at)
+        → IsBadAt (N.digest shop.now.namer) (job_view shop.now.job) (K.gives shop.now.kit) master.old.board.plan resumes.entry.header.now
+        resumes.entry.log.now at }
     ensures refused { IfErr result (λ why. RefusesSo resumes.entry.path
         (record { files = D.files keep.old; asked = D.asked keep.old; faults = D.faults keep.old })
         (record { files = D.files keep.new; asked = D.asked keep.new; faults = D.faults keep.new }) why) }
@@ -219,6 +229,7 @@ fn go_back<K: Kit + Drop, N: Namer + Drop, D: Keep, R: Wait>(
         master.new.board.journal bytes)) }
 {
     replays_follow::<K, N>();
+    logs_are_replayed::<K, N>();
     let Resumes { path, header, log } = resumes;
     let Replayed {
         whole,
@@ -244,11 +255,11 @@ fn go_back<K: Kit + Drop, N: Namer + Drop, D: Keep, R: Wait>(
     })
 }
 
-/// Runs on with these gates, in this thread or on threads, and hands them back.
+/// Goes on with the run on these hands with these gates, and gives them back.
 fn on_crew<K, N, G, D, R>(
     rt: R,
     alloc: Global,
-    alone: bool,
+    hands: Hands,
     opened: Opened<K, N>,
     gates: Vec<G>,
     plan: Snapshot<RunPlan>,
@@ -268,6 +279,7 @@ where
     requires many { length opened.eyes.items ≡ plan.value.workers }
     requires gates { length gates.items ≡ plan.value.workers }
     requires plan { opened.master.board.plan ≡ plan_view plan.value }
+    requires hands { IsFew hands }
     requires held { onward.log.held ≤ most }
     requires takes { Each (Takes K.gives N.digest (arc_value opened.shop)) onward.out.items }
     requires sends { CanSend (nobody plan.value.workers) onward.out.items }
@@ -286,12 +298,20 @@ where
         (K.gives (arc_value opened.shop).kit) (plan_view plan.value) onward.log.path onward.log.held (D.files keep.old) (D.files keep.new)
         opened.master.board.journal (map entry_view result.0.ran.journal.items) result.0.state) }
 {
-    if alone {
-        let back = in_this_thread(rt, alloc, opened, gates, plan, keep, onward);
-        return back;
+    match hands {
+        Hands::Caller => {
+            let back = in_this_thread(rt, alloc, opened, gates, plan, keep, onward);
+            back
+        }
+        Hands::Own => {
+            let back = on_threads(rt, alloc, opened, gates, plan, keep, onward);
+            back
+        }
+        Hands::Shared(threads) => {
+            let back = on_shared(rt, alloc, threads, opened, gates, plan, keep, onward);
+            back
+        }
     }
-    let back = on_threads(rt, alloc, opened, gates, plan, keep, onward);
-    back
 }
 
 /// Runs on over a crew of threads with these gates, and hands them back.
@@ -345,6 +365,64 @@ where
         return (no_run(alloc), gates);
     };
     match Channels::open(rt, alloc, shop, gates, eyes) {
+        Ok(crew) => run_over(alloc, master, crew, shared, eye, keep, onward),
+        Err((gates, Memory)) => (no_run(alloc), gates),
+    }
+}
+
+/// Runs on over so many threads, which all workers share, with these gates, and hands them back.
+fn on_shared<K, N, G, D, R>(
+    rt: R,
+    alloc: Global,
+    threads: u32,
+    opened: Opened<K, N>,
+    gates: Vec<G>,
+    plan: Snapshot<RunPlan>,
+    keep: &mut D,
+    onward: Onward,
+) -> (RanLogged, Vec<G>)
+where
+    K: Kit + Send + Sync + Drop + 'static,
+    N: Namer + Send + Sync + Drop + 'static,
+    G: Gate + Send + 'static,
+    D: Keep,
+    R: Threads + Wait + Copy + Send + Drop + 'static,
+    requires read { IsRead (job_view (arc_value opened.shop).job).script }
+    requires inputs { InputsInOrder (job_view (arc_value opened.shop).job) }
+    requires wide { (0 < plan.value.workers) × (plan.value.workers ≤ 64) }
+    requires of { AllLook (arc_value opened.shop) opened.eyes.items }
+    requires many { length opened.eyes.items ≡ plan.value.workers }
+    requires gates { length gates.items ≡ plan.value.workers }
+    requires plan { opened.master.board.plan ≡ plan_view plan.value }
+    requires threads { threads ≤ 64 }
+    requires held { onward.log.held ≤ most }
+    requires takes { Each (Takes K.gives N.digest (arc_value opened.shop)) onward.out.items }
+    requires sends { CanSend (nobody plan.value.workers) onward.out.items }
+    requires left { LeavesOpen opened.master.board.journal onward.out.items }
+    requires works { WorksOn K.gives N.digest (arc_value opened.shop) opened.master (sent_to (nobody plan.value.workers) onward.out.items) onward.end }
+    ensures end { Stood K.gives N.digest (arc_value opened.shop) opened.master (sent_to (nobody plan.value.workers) onward.out.items) onward.end onward.draws
+        → EndsSo (N.digest (arc_value opened.shop).namer) (job_view (arc_value opened.shop).job) (K.gives (arc_value opened.shop).kit)
+        (plan_view plan.value) (map entry_view result.0.ran.journal.items) result.0.ran.end }
+    ensures told { result.0.ran.end ≢ RunEnd.Memory → ToldSince opened.master.board.journal (map entry_view result.0.ran.journal.items)
+        (map G.entered gates.items) (map G.entered result.1.items) }
+    ensures keeps { result.0.ran.end ≢ RunEnd.Memory → Keeps onward.log.path onward.log.held
+        (record { files = D.files keep.old; asked = D.asked keep.old; faults = D.faults keep.old })
+        (record { files = D.files keep.new; asked = D.asked keep.new; faults = D.faults keep.new }) result.0.state }
+    ensures written { Stood K.gives N.digest (arc_value opened.shop) opened.master (sent_to (nobody plan.value.workers) onward.out.items) onward.end
+        onward.draws → IfOver result.0.ran.end (LogContinued (N.digest (arc_value opened.shop).namer) (job_view (arc_value opened.shop).job)
+        (K.gives (arc_value opened.shop).kit) (plan_view plan.value) onward.log.path onward.log.held (D.files keep.old) (D.files keep.new)
+        opened.master.board.journal (map entry_view result.0.ran.journal.items) result.0.state) }
+{
+    let Opened {
+        shop,
+        master,
+        mut eyes,
+    } = opened;
+    let eye = another_eye(&shop, &mut eyes);
+    let Ok(shared) = Arc::try_clone(&shop) else {
+        return (no_run(alloc), gates);
+    };
+    match Steal::open(rt, alloc, shop, gates, eyes, threads) {
         Ok(crew) => run_over(alloc, master, crew, shared, eye, keep, onward),
         Err((gates, Memory)) => (no_run(alloc), gates),
     }

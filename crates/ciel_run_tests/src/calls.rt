@@ -1,9 +1,10 @@
 // The program over a script at the path `s`, an input of the lines `b` and `a` at the path `f` and a log at the path `l`, in memory. One helper
 // calls it, and its contract says nothing: what the program promises would else be carried through every row.
 
-ghost use Rattle.std.specs.Prelude.{◌≡◌, length};
+ghost use Rattle.std.specs.Prelude.{◌≡◌, IfOk, length};
 
 use ciel_gate::gate::Gate;
+use ciel_gate::open::Open;
 use ciel_io::mem_files::MemFiles;
 use ciel_io::mem_keep::MemKeep;
 use ciel_io::mem_sink::MemSink;
@@ -67,6 +68,16 @@ pub struct Got {
     pub out: MemSink,
     pub log: MemSink,
     pub keep: MemKeep,
+}
+
+/// A gate for each worker that there may be.
+pub fn open_gates(alloc: Global) -> Result<Vec<Open>, Fail>
+    ensures { IfOk result (λ gates. length gates.items ≡ 64) }
+{
+    match Vec::from_elem(alloc, Open, 64) {
+        Ok(gates) => Ok(gates),
+        Err(_) => Err(Fail::from("memory")),
+    }
 }
 
 /// The program over the words of a row, a script and these gates; the log that stands at its path is empty.

@@ -1,25 +1,12 @@
 // Reads, writes and logs that fail: the first read that fails is told, none is tried where the script is none, and a log that fails changes
 // no status but that of a journal behind a result.
 
-ghost use Rattle.std.specs.Prelude.{◌≡◌, IfOk, length};
-
-use crate::calls::{Fails, Got, outcome};
-use ciel_gate::open::Open;
+use crate::calls::{Fails, Got, open_gates, outcome};
 use std::alloc::Global;
 use std::process::Abort;
 use std::sync::Wait;
 use std::test::Fail;
 use std::thread::Threads;
-
-/// A gate for each worker that there may be.
-fn gates(alloc: Global) -> Result<Vec<Open>, Fail>
-    ensures { IfOk result (λ gates. length gates.items ≡ 64) }
-{
-    match Vec::from_elem(alloc, Open, 64) {
-        Ok(gates) => Ok(gates),
-        Err(_) => Err(Fail::from("memory")),
-    }
-}
 
 fn over<R: Threads + Wait + Copy + Send + Drop + 'static>(
     rt: R,
@@ -28,7 +15,7 @@ fn over<R: Threads + Wait + Copy + Send + Drop + 'static>(
     source: &str,
     fails: Fails,
 ) -> Result<Got, Fail> {
-    let mut gates = gates(alloc)?;
+    let mut gates = open_gates(alloc)?;
     outcome(rt, alloc, row, source, fails, &mut gates)
 }
 

@@ -92,6 +92,7 @@ fn gates_tell_the_tasks_of_their_workers(rt: HostRuntime) -> Result<(), Fail> {
     told(rt, rt.alloc(), "s")?;
     told(rt, rt.alloc(), "s --workers 2 --seed 3")?;
     told(rt, rt.alloc(), "s --workers 3 --lose 2:0,3:1")?;
+    told(rt, rt.alloc(), "s --workers 3 --steal 2 --lose 2:0,3:1")?;
     told(rt, rt.alloc(), "s --plain")
 }
 
@@ -165,6 +166,17 @@ fn meets<R: Abort + Threads + Wait + Copy + Send + Drop + 'static>(
 #[test]
 fn two_workers_meet(rt: HostRuntime) -> Result<(), Fail> {
     meets(rt, rt.alloc(), "s --workers 2 t=f", 100_000_000, 2)
+}
+
+#[test]
+fn two_workers_meet_on_two_threads(rt: HostRuntime) -> Result<(), Fail> {
+    meets(
+        rt,
+        rt.alloc(),
+        "s --workers 2 --steal 2 t=f",
+        100_000_000,
+        2,
+    )
 }
 
 // Its gate waits in vain at the first of the two tasks, and at the second both have been entered.

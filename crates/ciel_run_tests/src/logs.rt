@@ -1,10 +1,12 @@
 // What the program puts into the log of a run, to the byte, and how it goes on from one.
 
-use crate::calls::{outcome, outcome_from};
-use ciel_gate::open::Open;
+use crate::calls::{Got, open_gates, outcome_from};
 use sky_base::text::Txt;
 use std::alloc::Global;
+use std::process::Abort;
+use std::sync::Wait;
 use std::test::Fail;
+use std::thread::Threads;
 
 // The records of a sum: the header, and the start and the report of each of its two tasks.
 static SUM: [&[u8]; 5] = [
@@ -24,45 +26,62 @@ fn joined(alloc: Global, records: &[&[u8]]) -> Result<Vec<u8>, Fail> {
     Ok(all)
 }
 
-#[test]
-fn the_log_of_a_sum(rt: HostRuntime) -> Result<(), Fail> {
-    let alloc = rt.alloc();
-    let mut gates = Vec::from_elem(alloc, Open, 64)?;
-    let got = outcome(
+// The program over a sum, with these bytes at the path of its log.
+fn ran<R: Threads + Wait + Copy + Send + Drop + 'static>(
+    rt: R,
+    alloc: Global,
+    row: &str,
+    log: &[u8],
+) -> Result<Got, Fail> {
+    let mut gates = open_gates(alloc)?;
+    outcome_from(
         rt,
         alloc,
-        "s --log l",
+        row,
         "return 1 + 2;",
+        log,
         (0, 0, 0, 0),
         &mut gates,
-    )?;
-    assert_eq!(&rt; got.ended.status, 0);
-    assert!(&rt; got.out.bytes() == b"3\n".as_slice());
-    let log = joined(alloc, SUM.as_slice())?;
-    let path = Txt::new(alloc, "l")?;
-    assert!(&rt; got.keep.file(&path) == Some(log.as_slice()));
+    )
+}
+
+fn wrote(rt: &impl Abort, got: &Got) -> Result<(), Fail> {
+    assert_eq!(rt; got.ended.status, 0);
+    assert!(rt; got.out.bytes() == b"3\n".as_slice());
     Ok(())
 }
 
-// The log is cut within the report of the first task: that report comes again.
-#[test]
-fn a_sum_goes_on_from_its_log(rt: HostRuntime) -> Result<(), Fail> {
-    let alloc = rt.alloc();
-    let mut gates = Vec::from_elem(alloc, Open, 64)?;
-    let cut = joined(alloc, &[SUM[0], SUM[1], b"\x00\x00\x00$R\x00"])?;
-    let got = outcome_from(
-        rt,
-        alloc,
-        "s --resume l",
-        "return 1 + 2;",
-        cut.as_slice(),
-        (0, 0, 0, 0),
-        &mut gates,
-    )?;
-    assert_eq!(&rt; got.ended.status, 0);
-    assert!(&rt; got.out.bytes() == b"3\n".as_slice());
+fn kept(rt: &impl Abort, alloc: Global, got: &Got) -> Result<(), Fail> {
     let log = joined(alloc, SUM.as_slice())?;
     let path = Txt::new(alloc, "l")?;
-    assert!(&rt; got.keep.file(&path) == Some(log.as_slice()));
+    assert!(rt; got.keep.file(&path) == Some(log.as_slice()));
+    Ok(())
+}
+
+// The sum is written, and its log is whole.
+fn ends<R: Abort + Threads + Wait + Copy + Send + Drop + 'static>(
+    rt: R,
+    alloc: Global,
+    row: &str,
+    log: &[u8],
+) -> Result<(), Fail> {
+    let got = ran(rt, alloc, row, log)?;
+    wrote(&rt, &got)?;
+    kept(&rt, alloc, &got)
+}
+
+#[test]
+fn the_log_of_a_sum(rt: HostRuntime) -> Result<(), Fail> {
+    ends(rt, rt.alloc(), "s --log l", &[])
+}
+
+// The log is cut within its header, behind it, within the first task's report, and behind it, and isn't cut: what is lacking comes again.
+#[test]
+fn a_sum_goes_on_from_its_log(rt: HostRuntime) -> Result<(), Fail> {
+    for cut in [45usize, 46, 95, 129, 179] {
+        let mut log = joined(rt.alloc(), SUM.as_slice())?;
+        log.truncate(cut);
+        ends(rt, rt.alloc(), "s --resume l", log.as_slice())?;
+    }
     Ok(())
 }

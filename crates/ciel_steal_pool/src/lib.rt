@@ -1,5 +1,6 @@
-//! Workers that share a few threads. Each worker has a desk (`ciel_crew_lanes`). The chair of a desk with a job on it lies among the ready ones
-//! (`ciel_steal_ready`), and a thread that hears a bell takes one chair, works at it once and hands it back.
+//! Workers that share a few threads. Each worker has a desk (`ciel_crew_lanes`), whose chair stands behind a lock. The number of a worker with
+//! a job on its desk lies among the ready ones (`ciel_steal_ready`), and a thread that hears a bell takes one number, works at that chair once
+//! and hands the number back.
 //!
 //! No clause says that a thread gets on, that a bell comes, or that a call returns: a call under `Wait` keeps its promise if it returns.
 #![tactic(auto)]

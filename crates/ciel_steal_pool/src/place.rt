@@ -1,9 +1,9 @@
-//! A worker's place at the master's side: its desk, and its chair while nobody works at it.
+//! A worker's place at the master's side: its desk, and whether its number is here, while nobody works at its chair.
 
 ghost use Rattle.std.specs.Prelude.{◌≡◌, ◌↔◌, ◌++◌, ◌∷◌, [], Some, None, is_some, IsTrue, IsSome, IfSome, MatchOption};
 ghost use Rattle.ciel_crew_lanes.specs.Seen.{LaneSeen};
 
-use ciel_crew_lanes::desk::{Chair, Desk};
+use ciel_crew_lanes::desk::Desk;
 use ciel_crew_lanes::work::Work;
 use std::marker::Model;
 use std::sync::Wait;
@@ -12,8 +12,8 @@ use std::sync::Wait;
 #[derive(Drop)]
 pub(crate) struct Place<W: Work> {
     pub(crate) desk: Desk<W>,
-    pub(crate) chair: Option<Chair<W>>,
     pub(crate) is_out: bool,
+    pub(crate) is_here: bool,
 }
 
 impl<W: Work> Model for Place<W> {
@@ -31,22 +31,15 @@ impl<W: Work> Place<W> {
         self.is_out
     }
 
-    pub(crate) fn has_chair(&self) -> bool {
-        self.chair.is_some()
+    pub(crate) fn is_here(&self) -> bool {
+        self.is_here
     }
 
-    /// Keeps the chair.
-    pub(crate) fn keep(&mut self, chair: Chair<W>)
+    /// Its number came back, or left.
+    pub(crate) fn lay(&mut self, is_here: bool)
         ensures same { self.new ≡ self.old }
     {
-        self.chair = Some(chair);
-    }
-
-    /// The chair, if it is here.
-    pub(crate) fn lend(&mut self) -> Option<Chair<W>>
-        ensures same { self.new ≡ self.old }
-    {
-        self.chair.take()
+        self.is_here = is_here;
     }
 
     pub(crate) fn put<R: Wait>(&mut self, rt: &R, job: W::In)
@@ -58,16 +51,8 @@ impl<W: Work> Place<W> {
         self.is_out = true;
     }
 
-    // Works at the chair, if it is here.
-    fn work<R: Wait>(&mut self, rt: &R)
-        ensures same { self.new ≡ self.old }
-    {
-        if let Some(chair) = &mut self.chair {
-            let _ = chair.work_one(rt);
-        }
-    }
-
-    fn take<R: Wait>(&mut self, rt: &R) -> Option<W::Out>
+    /// What lies on the desk, where it is an output.
+    pub(crate) fn take<R: Wait>(&mut self, rt: &R) -> Option<W::Out>
         requires out { IsSome self.old.out }
         ensures taken { MatchOption result (self.new ≡ self.old)
             (λ x. IfSome self.old.out (λ job. W.fits job x) × (self.new ≡ record self.old { out = None })) }
@@ -77,17 +62,5 @@ impl<W: Work> Place<W> {
             self.is_out = false;
         }
         taken
-    }
-
-    /// What lies on the desk, where it is an output. With `here` it is worked at first.
-    pub(crate) fn output<R: Wait>(&mut self, rt: &R, here: bool) -> Option<W::Out>
-        requires out { IsSome self.old.out }
-        ensures taken { MatchOption result (self.new ≡ self.old)
-            (λ x. IfSome self.old.out (λ job. W.fits job x) × (self.new ≡ record self.old { out = None })) }
-    {
-        if here {
-            self.work(rt);
-        }
-        self.take(rt)
     }
 }

@@ -6,14 +6,14 @@ ghost use Rattle.ciel_crew_lanes.specs.Seen.{LaneSeen, IsOut, HasTaken, Closes, 
 
 use crate::hall::Hall;
 use crate::place::Place;
-use crate::serve::{Bell, Post, Ticket, serve};
+use crate::serve::{Bell, Post, serve};
 use ciel_crew_lanes::bells::{Listener, Ringer, bells, bells_of};
 use ciel_crew_lanes::desk::{Chair, Desk};
 use ciel_crew_lanes::work::Work;
 use ciel_steal_ready::ready::{Ready, Seat};
 use std::alloc::{AllocError, Global};
 use std::marker::Model;
-use std::sync::Wait;
+use std::sync::{Arc, Mutex, Wait};
 use std::thread;
 use std::thread::{JoinHandle, Threads};
 
@@ -35,40 +35,37 @@ impl<W: Work, R: Drop> Model for Pool<W, R> {
     ghost invariant = { λ l. (l.done.items ≡ []) × (length l.places.items ≤ vec_capacity l.done) × (length l.places.items < 2 ^ 32) };
 }
 
-// A worker with a job out whose chair is here.
+// A worker with a job out whose number is here.
 fn own<W: Work>(places: &Vec<Place<W>>) -> Option<u32> {
     for (at, place) in places.iter().enumerate() {
-        if place.is_out() && place.has_chair() {
+        if place.is_out() && place.is_here() {
             return u32::try_from(at).ok();
         }
     }
     None
 }
 
-// The next chair that somebody worked at is laid at its place.
+// The next worker at whose chair somebody worked comes back to its place.
 fn welcome<W: Work, R: Wait>(rt: &R, places: &mut Vec<Place<W>>, hall: &mut Hall<W>) -> u32
     ensures same { places.new.items ≡ places.old.items }
 {
-    let Ticket { worker, chair } = hall.next(rt);
+    let worker = hall.next(rt);
     if (worker as usize) < places.len() {
-        places[worker as usize].keep(chair);
+        places[worker as usize].lay(true);
     }
     worker
 }
 
-// The chair of a worker goes out, or stays where there is no memory.
+// The number of a worker goes out, or stays where there is no memory.
 fn send_out<W: Work, R: Wait>(rt: &R, places: &mut Vec<Place<W>>, hall: &mut Hall<W>, worker: u32)
     requires worker { worker < length places.old.items }
     ensures same { places.new.items ≡ places.old.items }
 {
-    if let Some(chair) = places[worker as usize].lend() {
-        if let Some(chair) = hall.send_out(rt, worker, chair) {
-            places[worker as usize].keep(chair);
-        }
-    }
+    let is_here = !hall.send_out(rt, worker);
+    places[worker as usize].lay(is_here);
 }
 
-// The next output. A worker with no job out is passed over; where the job came back, the chair and a bell go out again.
+// The next output. A worker with no job out is passed over; where the job came back, its number and a bell go out again.
 fn take_one<W: Work, R: Wait>(
     rt: &R,
     places: &mut Vec<Place<W>>,
@@ -78,14 +75,15 @@ fn take_one<W: Work, R: Wait>(
     ensures taken { HasTaken W.fits places.old.items result.0 result.1 places.new.items }
 {
     for _ in rt.forever() {
-        let kept = own(places);
-        let here = kept.is_some();
-        let at = match kept {
-            Some(at) => at,
+        let at = match own(places) {
+            Some(at) => {
+                hall.work(rt, at as usize);
+                at
+            }
             None => welcome(rt, places, hall),
         };
         if (at as usize) < places.len() && places[at as usize].is_out() {
-            if let Some(output) = places[at as usize].output(rt, here) {
+            if let Some(output) = places[at as usize].take(rt) {
                 return (at, output);
             }
             send_out(rt, places, hall, at);
@@ -94,7 +92,7 @@ fn take_one<W: Work, R: Wait>(
     unreachable!()
 }
 
-// The output of one worker, where it has a job out. What comes back of others is laid at their places.
+// The output of one worker, where it has a job out. Others that come back are laid at their places.
 fn last_of<W: Work, R: Wait>(
     rt: &R,
     places: &mut Vec<Place<W>>,
@@ -109,10 +107,11 @@ fn last_of<W: Work, R: Wait>(
         return None;
     }
     for _ in rt.forever() {
-        if !places[at].has_chair() {
+        if !places[at].is_here() {
             let _ = welcome(rt, places, hall);
         } else {
-            let output = places[at].output(rt, true);
+            hall.work(rt, at);
+            let output = places[at].take(rt);
             if output.is_some() {
                 return output;
             }
@@ -133,8 +132,8 @@ fn note<O: Drop>(done: &mut Vec<(u32, O)>, at: u32, output: Option<O>)
 }
 
 impl<W: Work, R: Wait + Copy + Drop> Pool<W, R> {
-    /// Puts a job on the desk of a worker that has none out, and its chair among the ready ones. Where there is no memory for that the
-    /// chair stays here, and `take` or `close` works at it.
+    /// Puts a job on the desk of a worker that has none out, and its number among the ready ones. Where there is no memory for that the
+    /// number stays here, and `take` or `close` works at its chair.
     pub fn put(&mut self, lane: u32, job: W::In)
         requires lane { lane < length self.old }
         requires none { (lane_at self.old lane).out ≡ None }
@@ -188,36 +187,48 @@ impl<W: Work, R: Threads + Wait + Drop> Pool<W, R> {
     }
 }
 
-// A worker's place, with its chair.
-fn place_of<W: Work>(alloc: Global) -> Result<Place<W>, AllocError>
-    ensures fresh { IfOk result (λ p. p ≡ record { put = []; out = None }) }
+// The two sides of all workers: their places, and their chairs.
+#[derive(Drop)]
+struct Sides<W: Work> {
+    places: Vec<Place<W>>,
+    chairs: Vec<Mutex<Chair<W>>>,
+}
+
+// The two sides of a worker.
+fn side_of<W: Work>(alloc: Global) -> Result<(Place<W>, Chair<W>), AllocError>
+    ensures fresh { IfOk result (λ r. r.0 ≡ record { put = []; out = None }) }
 {
     let (desk, chair) = Desk::<W>::pair(alloc)?;
-    Ok(Place {
+    let place = Place {
         desk,
-        chair: Some(chair),
         is_out: false,
-    })
+        is_here: true,
+    };
+    Ok((place, chair))
 }
 
-// So many.
-fn places_of<W: Work>(alloc: Global, workers: u32) -> Result<Vec<Place<W>>, AllocError>
-    ensures many { IfOk result (λ v. length v.items ≡ workers) }
-    ensures fresh { IfOk result (λ v. All (λ x. x ≡ record { put = []; out = None }) v.items) }
+// So many workers.
+fn sides_of<W: Work>(alloc: Global, workers: u32) -> Result<Sides<W>, AllocError>
+    ensures many { IfOk result (λ v. length v.places.items ≡ workers) }
+    ensures fresh { IfOk result (λ v. All (λ x. x ≡ record { put = []; out = None }) v.places.items) }
 {
-    let mut all = Vec::new(alloc);
+    let mut places = Vec::new(alloc);
+    let mut chairs = Vec::new(alloc);
     for _ in 0..workers {
-        all.push(place_of::<W>(alloc)?)?;
+        let (place, chair) = side_of::<W>(alloc)?;
+        places.push(place)?;
+        chairs.push(Mutex::new(chair))?;
     }
-    Ok(all)
+    Ok(Sides { places, chairs })
 }
 
-// What each thread is given: a seat, an end that hears bells, and one that rings for what comes back.
+// What each thread is given: a seat, an end that hears bells, one that rings for what comes back, and the chairs.
 fn posts_of<W: Work>(
     alloc: Global,
-    seats: Vec<Seat<Ticket<W>>>,
+    seats: Vec<Seat<u32>>,
     ears: Vec<Listener<Bell>>,
-    back: &mut Ringer<Ticket<W>>,
+    back: &mut Ringer<u32>,
+    chairs: &Arc<Vec<Mutex<Chair<W>>>, Global>,
 ) -> Result<Vec<Post<W>>, AllocError>
     requires same { length ears.items ≡ length seats.items }
     ensures many { IfOk result (λ v. length v.items ≡ length seats.items) }
@@ -230,6 +241,7 @@ fn posts_of<W: Work>(
                 seat,
                 bells,
                 back: back.again()?,
+                chairs: Arc::try_clone(chairs)?,
             })?,
             None => unreachable!(),
         }
@@ -283,31 +295,38 @@ struct Rooms<W: Work> {
 }
 
 // A seat more than threads, and the last one is the master's; room for a bell of each worker and of each thread.
-fn rooms_of<W: Work>(alloc: Global, workers: u32, threads: u32) -> Result<Rooms<W>, AllocError>
+fn rooms_of<W: Work>(
+    alloc: Global,
+    workers: u32,
+    threads: u32,
+    chairs: Vec<Mutex<Chair<W>>>,
+) -> Result<Rooms<W>, AllocError>
     requires workers { 0 < workers }
     requires threads { threads ≤ 64 }
     ensures posts { IfOk result (λ r. length r.posts.items ≡ threads) }
 {
-    let (ready, mut seats) = Ready::<Ticket<W>>::open(alloc, threads + 1)?;
+    let chairs = Arc::new(alloc, chairs)?;
+    let (ready, mut seats) = Ready::<u32>::open(alloc, threads + 1)?;
     let (bell, mut ears) = bells_of::<Bell>(
         alloc,
         workers as usize + threads as usize,
         threads as usize + 1,
     )?;
-    let (mut ringer, back) = bells::<Ticket<W>>(alloc, workers as usize)?;
+    let (mut ringer, back) = bells::<u32>(alloc, workers as usize)?;
     let Some(seat) = seats.pop() else {
         unreachable!()
     };
     let Some(bells) = ears.pop() else {
         unreachable!()
     };
-    let posts = posts_of(alloc, seats, ears, &mut ringer)?;
+    let posts = posts_of(alloc, seats, ears, &mut ringer, &chairs)?;
     let hall = Hall {
         ready,
         seat,
         bell,
         bells,
         back,
+        chairs,
         staffed: false,
     };
     Ok(Rooms { hall, posts })
@@ -328,10 +347,10 @@ where
         requires threads { threads ≤ 64 }
         ensures opened { IfOk result (λ l. (length l ≡ lanes) × All (λ x. x ≡ record { put = []; out = None }) l) }
     {
-        let places = places_of::<W>(alloc, lanes)?;
+        let Sides { places, chairs } = sides_of::<W>(alloc, lanes)?;
         let done = Vec::with_capacity(alloc, lanes as usize)?;
         let room = Vec::with_capacity(alloc, threads as usize)?;
-        let Rooms { mut hall, posts } = rooms_of::<W>(alloc, lanes, threads)?;
+        let Rooms { mut hall, posts } = rooms_of::<W>(alloc, lanes, threads, chairs)?;
         let threads = staff(rt, room, posts);
         hall.staffed = threads.len() > 0;
         Ok(Pool {

@@ -4,49 +4,55 @@ use ciel_crew_lanes::bells::{Listener, Ringer};
 use ciel_crew_lanes::desk::Chair;
 use ciel_crew_lanes::work::Work;
 use ciel_steal_ready::ready::Seat;
-use std::sync::Wait;
+use std::alloc::Global;
+use std::sync::{Arc, Mutex, Wait};
 use std::thread;
 
 /// What a thread hears.
 #[derive(Clone, Copy)]
 pub(crate) enum Bell {
-    /// One chair more is ready.
+    /// One worker more is ready.
     Work,
     /// One thread is to end.
     Last,
 }
 
-/// A worker's chair, with its number.
-#[derive(Drop)]
-pub(crate) struct Ticket<W: Work> {
-    pub(crate) worker: u32,
-    pub(crate) chair: Chair<W>,
-}
-
 /// What a thread is given.
 #[derive(Drop)]
 pub(crate) struct Post<W: Work> {
-    pub(crate) seat: Seat<Ticket<W>>,
+    pub(crate) seat: Seat<u32>,
     pub(crate) bells: Listener<Bell>,
-    pub(crate) back: Ringer<Ticket<W>>,
+    pub(crate) back: Ringer<u32>,
+    pub(crate) chairs: Arc<Vec<Mutex<Chair<W>>>, Global>,
 }
 
-/// A chair, which it looks for until it has one.
-pub(crate) fn seek<W: Work, R: Wait>(rt: &R, seat: &mut Seat<Ticket<W>>) -> Ticket<W> {
+// The number of a ready worker, which it looks for until it has one.
+fn seek<R: Wait>(rt: &R, seat: &mut Seat<u32>) -> u32 {
     for _ in rt.forever() {
         match seat.take(rt) {
-            Some(ticket) => return ticket,
+            Some(worker) => return worker,
             None => thread::yield_now(),
         }
     }
     unreachable!()
 }
 
-/// Looks for a chair and works at it once.
-pub(crate) fn work_at_one<W: Work, R: Wait>(rt: &R, seat: &mut Seat<Ticket<W>>) -> Ticket<W> {
-    let mut ticket = seek(rt, seat);
-    let _ = ticket.chair.work_one(rt);
-    ticket
+/// Works once at a worker's chair.
+pub(crate) fn work_at<W: Work, R: Wait>(rt: &R, chairs: &Vec<Mutex<Chair<W>>>, worker: usize) {
+    if let Some(chair) = chairs.get(worker) {
+        let _ = chair.lock(rt).work_one(rt);
+    }
+}
+
+/// Looks for a ready worker and works at its chair once. Its number.
+pub(crate) fn work_at_one<W: Work, R: Wait>(
+    rt: &R,
+    chairs: &Vec<Mutex<Chair<W>>>,
+    seat: &mut Seat<u32>,
+) -> u32 {
+    let worker = seek(rt, seat);
+    work_at(rt, chairs, worker as usize);
+    worker
 }
 
 /// Works until the last bell.
@@ -55,12 +61,13 @@ pub(crate) fn serve<W: Work, R: Wait + Drop>(rt: R, post: Post<W>) {
         mut seat,
         mut bells,
         mut back,
+        chairs,
     } = post;
     for _ in rt.forever() {
         match bells.hear(&rt) {
             Bell::Work => {
-                let ticket = work_at_one(&rt, &mut seat);
-                back.ring(&rt, ticket);
+                let worker = work_at_one(&rt, &chairs, &mut seat);
+                back.ring(&rt, worker);
             }
             Bell::Last => return,
         }

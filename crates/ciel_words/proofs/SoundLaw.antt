@@ -6,7 +6,7 @@ use Rattle.std.specs.List.{AllByRecursion, list_all}
 use Rattle.std.specs.Str.Parse.{digits_value}
 use Rattle.std.proofs.lemmas.Bool.Decides.{nat_tests}
 use Rattle.ciel_words.specs.Inputs.{all_apart, are_inputs, begins_key, goes_on_key, input_in, is_input, is_key, key_in, most_inputs, most_name, path_in}
-use Rattle.ciel_words.specs.Line.{files_in, line_said, line_with, lines_in, log_in, most_workers, with}
+use Rattle.ciel_words.specs.Line.{files_in, line_said, line_with, lines_in, log_in, most_threads, most_workers, steal_in, with}
 use Rattle.ciel_words.specs.Parts.{Part, Text, has_flag, names_of, parts_of, texts_of, value_of}
 use Rattle.ciel_words.specs.Sound.{LineIsSound, LinesAreSound}
 use Rattle.ciel_words.specs.Values.{count_in, each_loss, is_number, loss_in, losses_in, most_losses, names_in, number_within, or_absent, pieces}
@@ -173,17 +173,31 @@ resume_sound plain log o r e path h =
     let none = neither plain log sound.0 in
     (none.0, none.1, sound.1)
 
-said_sound : (workers seed lose names log resume generate : Option Text) (trace plain : Bool) (texts : List Text) (w : Words)
-    → line_said workers seed lose names log resume generate trace plain texts ≡ Some w
+steal_sound : (plain : Bool) (o : Option Text) (s : Option ℕ) → or_absent None (steal_in plain) o ≡ Some s → (threads : ℕ) → s ≡ Some threads
+    → (plain ≡ false) × (0 < threads) × (threads ≤ most_threads)
+steal_sound plain None s e n h = absurd (no_some n (some_is None s e ∙ h))
+steal_sound true (Some t) s e n h = absurd (no_some s e)
+steal_sound false (Some t) s e n h = split (number_within 1 most_threads t) refl e
+  where
+    split : (o : Option ℕ) → number_within 1 most_threads t ≡ o → option_map (λ m. Some m) o ≡ Some s → (false ≡ false) × (0 < n) × (n ≤ most_threads)
+    split None b f = absurd (no_some s f)
+    split (Some m) b f =
+        let same : m ≡ n = some_is m n (some_is (Some m) s f ∙ h) in
+        let is = within 1 most_threads t m b in
+        (refl, omega (arith, is.0, same), omega (arith, is.1, same))
+
+said_sound : (workers seed lose names log resume steal generate : Option Text) (trace plain : Bool) (texts : List Text) (w : Words)
+    → line_said workers seed lose names log resume steal generate trace plain texts ≡ Some w
     → LineIsSound w
-said_sound workers seed lose names log resume generate trace plain texts w e =
+said_sound workers seed lose names log resume steal generate trace plain texts w e =
     let one = given (or_absent 1 (number_within 1 most_workers) workers) _ w e in
     let two = given (or_absent 0 (number_within 0 (2 ^ 64 - 1)) seed) _ w one.2 in
     let three = given (or_absent [] (losses_in one.0) lose) _ w two.2 in
     let four = given (or_absent NameKind.Sha1 names_in names) _ w three.2 in
     let logs = given (or_absent None (log_in plain) log) _ w four.2 in
     let resumes = given (or_absent None (log_in (plain || is_some logs.0)) resume) _ w logs.2 in
-    let five = given (or_absent None lines_in generate) _ w resumes.2 in
+    let steals = given (or_absent None (steal_in plain) steal) _ w resumes.2 in
+    let five = given (or_absent None lines_in generate) _ w steals.2 in
     let six = given (files_in five.0 texts) _ w five.2 in
     let count = workers_within workers one.0 one.1 in
     let losses = losses_sound one.0 count.0 lose three.0 three.1 in
@@ -198,6 +212,7 @@ said_sound workers seed lose names log resume generate trace plain texts w e =
       named = files.2;
       logged = log_sound plain log logs.0 logs.1;
       resumed = resume_sound plain logs.0 resume resumes.0 resumes.1;
+      shared = steal_sound plain steal steals.0 steals.1;
     })
 
 pub lines_are_sound : LinesAreSound
@@ -209,6 +224,6 @@ lines_are_sound words w e =
     split : (ps : List Part) (b : Bool) → cond b (line_with ps) None ≡ Some w → LineIsSound w
     split ps true h =
         said_sound (value_of (codes "workers") ps) (value_of (codes "seed") ps) (value_of (codes "lose") ps) (value_of (codes "names") ps)
-        (value_of (codes "log") ps) (value_of (codes "resume") ps) (value_of (codes "generate") ps)
+        (value_of (codes "log") ps) (value_of (codes "resume") ps) (value_of (codes "steal") ps) (value_of (codes "generate") ps)
         (has_flag (codes "trace") ps) (has_flag (codes "plain") ps) (texts_of ps) w h
     split ps false h = absurd (no_some w h)

@@ -122,7 +122,8 @@ waits_for rest e =
     (ap₂ (λ a b. a || b) (turned rest (codes "names"))
     (ap₂ (λ a b. a || b) (turned rest (codes "log"))
     (ap₂ (λ a b. a || b) (turned rest (codes "resume"))
-    (ap (λ a. a || false) (turned rest (codes "generate"))))))))
+    (ap₂ (λ a b. a || b) (turned rest (codes "steal"))
+    (ap (λ a. a || false) (turned rest (codes "generate")))))))))
 
 no_wait : (rest : Text) → has_equals rest ≡ true → takes_next (45 ∷ 45 ∷ rest) ≡ false
 no_wait rest e =
@@ -134,6 +135,7 @@ no_wait rest e =
       other (codes "names") refl,
       other (codes "log") refl,
       other (codes "resume") refl,
+      other (codes "steal") refl,
       other (codes "generate") refl,
     ) refl
 
@@ -164,6 +166,7 @@ no_wait_positional w e =
       other (codes "--names") refl,
       other (codes "--log") refl,
       other (codes "--resume") refl,
+      other (codes "--steal") refl,
       other (codes "--generate") refl,
     ) refl
 

@@ -1,6 +1,6 @@
 -- The line of the command:
--- SCRIPT [--workers N] [--seed N] [--lose K:W,K:W] [--trace] [--plain] [--names sha1|sha256] [--log PATH] [--resume PATH] [NAME=PATH]..., or
--- --generate N with these options.
+-- SCRIPT [--workers N] [--seed N] [--lose K:W,K:W] [--trace] [--plain] [--names sha1|sha256] [--steal T] [--log PATH] [--resume PATH]
+-- [NAME=PATH]..., or --generate N with these options.
 use Rattle.std.specs.Prelude.{ℕ, ◌-◌, ◌^◌, ◌&&◌, ◌||◌, Bool, not, is_some, nat_lt, List, [], ◌∷◌, Option, Some, None, if◌then◌else◌, codes, length, map, option_map}
 use Rattle.ciel_words.specs.Inputs.{all_apart, are_inputs, input_in}
 use Rattle.ciel_words.specs.Parts.{Text, Part, parts_of, names_of, value_of, has_flag, texts_of}
@@ -23,6 +23,14 @@ most_lines = 1000000
 abbrev pub log_in : (without : Bool) → Text → Option (Option Text)
 log_in without t = if not without && nat_lt 0 (length t) then Some (Some t) else None
 
+-- the greatest number of threads that are shared
+abbrev pub most_threads : ℕ
+most_threads = 64
+
+-- the number of threads that all workers share, which a sequential run has none of
+abbrev pub steal_in : (plain : Bool) → Text → Option (Option ℕ)
+steal_in plain t = if plain then None else option_map (λ n. Some n) (number_within 1 most_threads t)
+
 -- the number of lines of a generated job, where the option stands there
 abbrev pub lines_in : Text → Option (Option ℕ)
 lines_in t = option_map (λ n. Some n) (number_within 1 most_lines t)
@@ -34,15 +42,17 @@ files_in None (w ∷ ws) = if nat_lt 0 (length w) && are_inputs ws then Some (So
 files_in (Some lines) [] = Some (None, [])
 files_in (Some lines) (w ∷ ws) = None
 
--- what a line says that has these values, flags and positional words: a sequential run has no log, and a run that goes on from one begins none
-abbrev pub line_said : (workers seed lose names log resume generate : Option Text) → (trace plain : Bool) → List Text → Option Words
-line_said workers seed lose names log resume generate trace plain texts =
+-- what a line says that has these values, flags and positional words: a sequential run has no log and no threads to share, and a run that goes on
+-- from a log begins none
+abbrev pub line_said : (workers seed lose names log resume steal generate : Option Text) → (trace plain : Bool) → List Text → Option Words
+line_said workers seed lose names log resume steal generate trace plain texts =
     with (or_absent 1 (number_within 1 most_workers) workers) (λ w.
     with (or_absent 0 (number_within 0 (2 ^ 64 - 1)) seed) (λ s.
     with (or_absent [] (losses_in w) lose) (λ l.
     with (or_absent NameKind.Sha1 names_in names) (λ k.
     with (or_absent None (log_in plain) log) (λ d.
     with (or_absent None (log_in (plain || is_some d)) resume) (λ r.
+    with (or_absent None (steal_in plain) steal) (λ t.
     with (or_absent None lines_in generate) (λ g.
     with (files_in g texts) (λ f. Some (record {
       script = f.0;
@@ -55,14 +65,15 @@ line_said workers seed lose names log resume generate trace plain texts =
       names = k;
       log = d;
       resume = r;
+      steal = t;
       generate = g;
-    })))))))))
+    }))))))))))
 
 abbrev pub line_with : List Part → Option Words
 line_with ps =
     let value = λ (name : Text). value_of name ps in
     line_said (value (codes "workers")) (value (codes "seed")) (value (codes "lose")) (value (codes "names")) (value (codes "log"))
-    (value (codes "resume")) (value (codes "generate")) (has_flag (codes "trace") ps) (has_flag (codes "plain") ps) (texts_of ps)
+    (value (codes "resume")) (value (codes "steal")) (value (codes "generate")) (has_flag (codes "trace") ps) (has_flag (codes "plain") ps) (texts_of ps)
 
 -- what the words say, where they are a line: each option stands at most once
 abbrev pub line_of : List Text → Option Words

@@ -32,7 +32,7 @@ fn words<'a>(alloc: Global) -> Arg<'a>
     Arg::new(alloc, "words").action(ArgAction::Append)
 }
 
-/// The command: seven options with a value, two without, and positional words; no help and no version.
+/// The command: eight options with a value, two without, and positional words; no help and no version.
 pub(crate) fn command<'a>(alloc: Global) -> Result<Command<'a>, AllocError>
     ensures { IfOk result (λ c. app_of c ≡ command) }
 {
@@ -46,6 +46,7 @@ pub(crate) fn command<'a>(alloc: Global) -> Result<Command<'a>, AllocError>
         .arg(option(alloc, "names"))?
         .arg(option(alloc, "log"))?
         .arg(option(alloc, "resume"))?
+        .arg(option(alloc, "steal"))?
         .arg(option(alloc, "generate"))?
         .arg(flag(alloc, "trace"))?
         .arg(flag(alloc, "plain"))?

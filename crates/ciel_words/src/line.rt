@@ -1,7 +1,7 @@
 //! What the values of a line say.
 
 ghost use Rattle.std.specs.Prelude.{◌≡◌, ◌<◌, [], Some, None, Err, IfOk, map};
-ghost use Rattle.ciel_words.specs.Line.{files_in, lines_in, log_in};
+ghost use Rattle.ciel_words.specs.Line.{files_in, lines_in, log_in, steal_in};
 ghost use Rattle.ciel_words.specs.Raw.{said_by, text_of};
 ghost use Rattle.ciel_words.specs.Values.{losses_in, names_in, or_absent};
 
@@ -15,6 +15,9 @@ use std::alloc::Global;
 
 /// The greatest number of workers.
 const MOST_WORKERS: u64 = 64;
+
+/// The greatest number of threads that are shared.
+const MOST_THREADS: u64 = 64;
 
 /// The greatest number of lines of a generated job.
 const MOST_LINES: u64 = 1_000_000;
@@ -58,6 +61,20 @@ fn log_path(alloc: Global, without: bool, value: Option<&str>) -> Result<Option<
             Err(_) => Err(WordsRefusal::Memory),
         },
         Some(_) => Err(WordsRefusal::Usage),
+    }
+}
+
+// The number of threads that all workers share, where some are asked for; a sequential run has none.
+fn shared(plain: bool, value: Option<&str>) -> Option<Option<u32>>
+    ensures { result ≡ or_absent None (steal_in plain) (text_of value.entry) }
+{
+    match value {
+        None => Some(None),
+        Some(_) if plain => None,
+        Some(text) => {
+            let threads = number_within(1, MOST_THREADS, text)?;
+            Some(Some(threads as u32))
+        }
     }
 }
 
@@ -132,6 +149,9 @@ pub(crate) fn line_from(alloc: Global, raw: &Raw<'_>) -> Result<Words, WordsRefu
     };
     let log = log_path(alloc, raw.plain, raw.log)?;
     let resume = log_path(alloc, raw.plain || log.is_some(), raw.resume)?;
+    let Some(steal) = shared(raw.plain, raw.steal) else {
+        return Err(WordsRefusal::Usage);
+    };
     let Some(generate) = generated(raw.generate) else {
         return Err(WordsRefusal::Usage);
     };
@@ -147,6 +167,7 @@ pub(crate) fn line_from(alloc: Global, raw: &Raw<'_>) -> Result<Words, WordsRefu
         names,
         log,
         resume,
+        steal,
         generate,
     })
 }

@@ -26,6 +26,7 @@ pub(crate) struct Raw<'a> {
     pub names: Option<&'a str>,
     pub log: Option<&'a str>,
     pub resume: Option<&'a str>,
+    pub steal: Option<&'a str>,
     pub generate: Option<&'a str>,
     pub trace: bool,
     pub plain: bool,
@@ -40,6 +41,7 @@ fn gather<'a>(alloc: Global, matches: &ArgMatches<'a>) -> Result<Raw<'a>, AllocE
     ensures names { IfOk result (λ r. text_of r.names ≡ first_of (codes "names") (rows_of (found_of matches.now))) }
     ensures log { IfOk result (λ r. text_of r.log ≡ first_of (codes "log") (rows_of (found_of matches.now))) }
     ensures resume { IfOk result (λ r. text_of r.resume ≡ first_of (codes "resume") (rows_of (found_of matches.now))) }
+    ensures steal { IfOk result (λ r. text_of r.steal ≡ first_of (codes "steal") (rows_of (found_of matches.now))) }
     ensures generate { IfOk result (λ r. text_of r.generate ≡ first_of (codes "generate") (rows_of (found_of matches.now))) }
     ensures trace { IfOk result (λ r. FlagSays (one_of (codes "trace") (rows_of (found_of matches.now))) r.trace) }
     ensures plain { IfOk result (λ r. FlagSays (one_of (codes "plain") (rows_of (found_of matches.now))) r.plain) }
@@ -56,6 +58,7 @@ fn gather<'a>(alloc: Global, matches: &ArgMatches<'a>) -> Result<Raw<'a>, AllocE
         names: matches.get_str("names"),
         log: matches.get_str("log"),
         resume: matches.get_str("resume"),
+        steal: matches.get_str("steal"),
         generate: matches.get_str("generate"),
         trace: matches.get_flag("trace"),
         plain: matches.get_flag("plain"),
@@ -78,7 +81,14 @@ fn takes_next(word: &str) -> bool
 {
     matches!(
         word,
-        "--workers" | "--seed" | "--lose" | "--names" | "--log" | "--resume" | "--generate"
+        "--workers"
+            | "--seed"
+            | "--lose"
+            | "--names"
+            | "--log"
+            | "--resume"
+            | "--steal"
+            | "--generate"
     )
 }
 

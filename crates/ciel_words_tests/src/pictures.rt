@@ -89,6 +89,14 @@ fn put_log(out: &mut String, line: &Words) -> Result<(), Fail> {
     Ok(())
 }
 
+fn put_threads(alloc: Global, out: &mut String, line: &Words) -> Result<(), Fail> {
+    if let Some(threads) = line.steal {
+        out.push_str(" steal ")?;
+        put_number(alloc, out, u64::from(threads))?;
+    }
+    Ok(())
+}
+
 fn put_lines(alloc: Global, out: &mut String, line: &Words) -> Result<(), Fail> {
     if let Some(lines) = line.generate {
         out.push_str(" ")?;
@@ -105,11 +113,12 @@ fn put_line(alloc: Global, out: &mut String, line: &Words) -> Result<(), Fail> {
     put_losses(alloc, out, line)?;
     put_flags(out, line)?;
     put_log(out, line)?;
+    put_threads(alloc, out, line)?;
     put_lines(alloc, out, line)
 }
 
 /// What the words say: the script, the inputs, the workers, the seed, the losses, the digest, the flags, the log that is written or
-/// gone on from and the lines of a generated job, with spaces between; or `no line`.
+/// gone on from, the threads that are shared and the lines of a generated job, with spaces between; or `no line`.
 pub(crate) fn picture_of(alloc: Global, words: &[Txt]) -> Result<String, Fail> {
     let mut out = String::new(alloc);
     match read_words(alloc, words) {

@@ -5,7 +5,7 @@ use std::alloc::Global;
 use std::test::Fail;
 
 // Words, and what they say: a bar stands between two words.
-static LINES: [(&str, &str); 29] = [
+static LINES: [(&str, &str); 36] = [
     ("s", "s w1 s0 sha1"),
     ("--workers=2|s|--|a=x", "s a=x w2 s0 sha1"),
     ("--|--seed", "--seed w1 s0 sha1"),
@@ -47,6 +47,16 @@ static LINES: [(&str, &str); 29] = [
     ("s|--log=a|--resume=a", "no line"),
     ("s|--resume=a|--plain", "no line"),
     ("s|--resume=a|--resume=a", "no line"),
+    ("--steal|2|s|--workers=5", "s w5 s0 sha1 steal 2"),
+    (
+        "--steal=64|--log=l|--generate=4",
+        "w1 s0 sha1 log l steal 64 4 lines",
+    ),
+    ("s|--resume=l|--steal=1", "s w1 s0 sha1 resume l steal 1"),
+    ("s|--steal=0", "no line"),
+    ("s|--steal=65", "no line"),
+    ("s|--steal=2|--plain", "no line"),
+    ("s|--steal=2|--steal=2", "no line"),
 ];
 
 // Whether the words of a row say what stands beside them.

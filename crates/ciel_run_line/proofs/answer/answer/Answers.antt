@@ -23,7 +23,13 @@ use Rattle.ciel_run_line.proofs.Last.{none_of}
 use Rattle.ciel_run_line.proofs.Onward.{end_ran, end_some, logged_alone, named_other, no_path, own_read, plain_alone, resumed_named, told_alone, told_onward, told_still, unlogged}
 use Rattle.ciel_run_line.proofs.Ran.{memory_answers, memory_ways, plain_answers, plain_ways, run_answers, run_ways}
 use Rattle.ciel_run_line.proofs.Refused.{alone_refuses, end_refuses}
+use Rattle.ciel_run_line.proofs.Shared.{few_threads}
 use Rattle.ciel_run_line.proofs.answer.answer.Goals as goal
+
+-- ---- on what its workers work
+
+pub of-hands-requires : goal.of-hands-requires
+of-hands-requires g c = few_threads c.args.line.now c.requires.line
 
 -- ---- by the sequential interpreter
 

@@ -25,7 +25,7 @@ use Rattle.ciel_run_line.specs.Resuming.{OnwardTold, OwnIfRead, RefusesLog, Repl
 use Rattle.ciel_run_line.specs.Runs.{digest_of, log_path}
 use Rattle.ciel_run_log.specs.declared.why.Why.{Why}
 use Rattle.ciel_run_line.proofs.Began.{onward_keeps, onward_told, refused_keeps, refused_told, unbegun_keeps}
-use Rattle.ciel_run_line.proofs.Onward.{begins_own, end_ran, end_some, header_at, header_other, onward_since, other_header, resumed_named}
+use Rattle.ciel_run_line.proofs.Onward.{bad_at, begins_own, end_ran, end_some, header_other, onward_since, other_header, resumed_named}
 use Rattle.ciel_run_line.proofs.Ran.{memory_answers, memory_ways, run_answers, run_ways}
 use Rattle.ciel_run_line.proofs.Refused.{end_refuses, other_ended, ran_on, refused_answers, refused_cause, refused_none, refused_some, refused_ways, which_not}
 use Rattle.ciel_run_line.proofs.ShortHeader.{short_header}
@@ -252,7 +252,7 @@ returns-clause-refuses g c =
     (refused_cause w c.args.path.now c.in-Err.not c.why_not.result c.why_not.ensures source job log
     (λ e. header_other w source job log header bytes plan header_is c.as_slice-3.ensures c.requires.plan
     (c.run_from_log.ensures.other (c.in-Err.is ∙ ap (λ (n : NotResumed). Err n) e)))
-    (λ at e. header_at w source job log header bytes plan header_is c.as_slice-3.ensures c.requires.plan at
+    (λ at e. bad_at w source job log header bytes plan header_is c.as_slice-3.ensures c.requires.plan at
     (c.run_from_log.ensures.bad at (c.in-Err.is ∙ ap (λ (n : NotResumed). Err n) e))))
 
 pub returns-clause-of_other : goal.returns-clause-of_other

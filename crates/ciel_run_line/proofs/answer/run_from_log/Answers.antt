@@ -1,8 +1,9 @@
 -- The names are those that the line asks for.
-use Rattle.std.proofs.Common.{◌≢◌, List, ◌≡◌, IfOk, map, subst, sym}
+use Rattle.std.proofs.Common.{◌≢◌, ℕ, List, ◌≡◌, Err, IfOk, map, subst, sym}
 use Rattle.sky_base.specs.JobView.{job_view}
 use Rattle.ciel_journal.specs.Entries.{Entry}
 use Rattle.ciel_log_follows.specs.Begins.{BeginsLog}
+use Rattle.ciel_log_refuses.specs.Refusals.{IsBadAt}
 use Rattle.ciel_master.specs.Seen.{plan_view}
 use Rattle.ciel_master.specs.Views.{entry_view}
 use Rattle.ciel_master.specs.declared.stop.RunEnd.{RunEnd}
@@ -11,10 +12,17 @@ use Rattle.ciel_run_logged.specs.Keeping.{IfOver}
 use Rattle.ciel_run_logged.specs.Told.{told_of}
 use Rattle.ciel_run_resumed.specs.Gates.{ToldSince}
 use Rattle.ciel_run_resumed.specs.Resuming.{FileTells, Replays}
+use Rattle.ciel_run_resumed.specs.declared.run.NotResumed.{NotResumed}
 use Rattle.ciel_words.specs.declared.words.NameKind.{NameKind}
 use Rattle.line_kit.specs.Gives.{gives}
 use Rattle.ciel_run_line.specs.Runs.{digest_of}
 use Rattle.ciel_run_line.proofs.answer.run_from_log.Goals as goal
+
+pub returns-in-Sha1-clause-bad : goal.returns-in-Sha1-clause-bad
+returns-in-Sha1-clause-bad g c =
+    subst (λ (n : NameKind). (at : ℕ) → c.run_resumed.result ≡ Err (NotResumed.BadLog at)
+    → IsBadAt (digest_of n) (job_view c.args.job) gives (plan_view c.args.plan) c.args.resumes.header.now c.args.resumes.log.now at)
+    (sym c.in-Sha1.is) c.run_resumed.ensures.bad
 
 pub returns-in-Sha1-clause-end : goal.returns-in-Sha1-clause-end
 returns-in-Sha1-clause-end g c =
@@ -36,6 +44,12 @@ returns-in-Sha1-clause-written g c =
     → IfOk c.run_resumed.result (λ r. IfOver r.ran.end (FileTells (digest_of n) (job_view c.args.job) gives (plan_view c.args.plan)
     c.args.resumes.header.now c.args.resumes.path (g.D.Keep.files c.run_resumed.new.keep) (map entry_view r.ran.journal.items) r.state)))
     (sym c.in-Sha1.is) c.run_resumed.ensures.written
+
+pub returns-in-Sha256-clause-bad : goal.returns-in-Sha256-clause-bad
+returns-in-Sha256-clause-bad g c =
+    subst (λ (n : NameKind). (at : ℕ) → c.run_resumed-in-Sha256.result ≡ Err (NotResumed.BadLog at)
+    → IsBadAt (digest_of n) (job_view c.args.job) gives (plan_view c.args.plan) c.args.resumes.header.now c.args.resumes.log.now at)
+    (sym c.in-Sha256.is) c.run_resumed-in-Sha256.ensures.bad
 
 pub returns-in-Sha256-clause-end : goal.returns-in-Sha256-clause-end
 returns-in-Sha256-clause-end g c =

@@ -1,14 +1,29 @@
 -- What was replayed is what a run goes on from: by the law, where the log is one of the job's own, and by the orders that were out.
-use Rattle.std.proofs.Common.{ap}
+use Rattle.std.proofs.Common.{◌≡◌, ap, ◌∙◌}
 use Rattle.sky_base.specs.JobView.{job_view}
 use Rattle.ciel_log_file.specs.Sending.{nobody, sent_to}
+use Rattle.ciel_log_file.specs.declared.refusal.LogRefusal.{LogRefusal}
 use Rattle.ciel_log_follows.specs.Follows.{CameTo, IsAtFirst}
 use Rattle.ciel_run_resumed.specs.Resuming.{standing_bytes}
 use Rattle.ciel_run_resumed.proofs.Alone.{standing_told}
 use Rattle.ciel_run_resumed.proofs.Left.{left_after}
-use Rattle.ciel_run_resumed.proofs.Onward.{stood_on, works_on}
+use Rattle.ciel_run_resumed.proofs.Onward.{place_of, stood_on, works_on}
 use Rattle.ciel_run_resumed.proofs.Standing.{whole_within}
 use Rattle.ciel_run_resumed.proofs.run.go_back.Goals as goal
+
+pub returns-in-Err-BadLog-clause-bad : goal.returns-in-Err-BadLog-clause-bad
+returns-in-Err-BadLog-clause-bad g c = λ kept at is.
+    let shop = c.args.shop.now in
+    let m = c.args.master.now in
+    let first : IsAtFirst g.K.Kit.gives g.N.Namer.digest shop m =
+    record {
+      working = c.requires.working;
+      kept = kept;
+      journal = c.requires.first.1;
+    } in
+    let same : c.in-Err-BadLog.at ≡ at = ap place_of (rw c.in-Err-BadLog.field-0-is at is) in
+    c.logs_are_replayed.ensures.bad shop c.args.resumes.log.now c.args.resumes.header.now m at first
+    (c.in-Err-BadLog.ensures.refused at (c.in-Err-BadLog.field-0-is ∙ ap LogRefusal.BadLog same))
 
 pub begin_again-requires-clause-whole : goal.begin_again-requires-clause-whole
 begin_again-requires-clause-whole g c =

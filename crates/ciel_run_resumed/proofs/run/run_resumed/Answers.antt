@@ -1,5 +1,5 @@
 -- What was opened goes on from where its log stands; and the gates are those that were lent, and the others.
-use Rattle.std.proofs.Common.{◌≡◌, ◌≢◌, ◌∙◌, List, ℕ, map, take, length, true, ap, subst, sym}
+use Rattle.std.proofs.Common.{◌≡◌, ◌≢◌, ◌∙◌, Err, List, ℕ, map, take, length, true, ap, subst, sym}
 use Rattle.std.proofs.lemmas.List.{length-take-le}
 use Rattle.std.specs.Arc.{arc_value}
 use Rattle.sky_base.specs.JobView.{job_view}
@@ -15,18 +15,22 @@ use Rattle.ciel_log_law.specs.Told.{LogContinued}
 use Rattle.ciel_log_law.specs.Seen.{plan_view}
 use Rattle.ciel_log_law.specs.Views.{entry_view}
 use Rattle.ciel_log_law.specs.Working.{Working}
+use Rattle.ciel_log_refuses.specs.Refusals.{IsBadAt}
 use Rattle.ciel_run_job.proofs.Lent.{all_back, others_back, still}
 use Rattle.ciel_run_job.specs.Onward.{IsRead}
 use Rattle.ciel_run_job.specs.Told.{told_of}
 use Rattle.ciel_run_logged.specs.Keeping.{IfOver, KeeperSeen, Keeps}
 use Rattle.ciel_run_resumed.specs.Gates.{ToldSince}
 use Rattle.ciel_run_resumed.specs.Resuming.{BegunWith, FileTells, Replays, Stood, WorksOn}
+use Rattle.ciel_run_resumed.specs.declared.run.NotResumed.{NotResumed}
 use Rattle.ciel_run_resumed.proofs.Began.{kept_by}
+use Rattle.ciel_run_resumed.proofs.Onward.{handed_on}
 use Rattle.ciel_run_resumed.proofs.Opened.{at_first, ends_still, from_first, kept_first, nothing_yet, over_still, plan_is, works_first}
 use Rattle.ciel_run_resumed.proofs.Told.{since_back, since_many}
 use Rattle.ciel_run_resumed.proofs.Written.{file_tells}
 use Rattle.ciel_task_crew.specs.Crews.{Takes}
 use Rattle.ciel_task_order.specs.Shop.{InputsInOrder}
+use Rattle.ciel_task_order.specs.declared.shop.Shop.{Shop}
 use Rattle.ciel_run_resumed.proofs.run.run_resumed.Goals as goal
 
 pub go_back-requires-clause-working : goal.go_back-requires-clause-working
@@ -69,6 +73,28 @@ on_crew-logged-requires-clause-works g c κs within =
 pub on_crew-logged-requires-clause-plan : goal.on_crew-logged-requires-clause-plan
 on_crew-logged-requires-clause-plan g c κs within = c.in_ok-onward.ensures.plan ∙ (plan_is g.K.Kit.gives g.N.Namer.digest (arc_value c.in-Ok.opened.shop) c.args.plan c.in-Ok.opened.master c.in-Ok.opened.eyes.items
     c.in-Ok.ensures.opened ∙ ap plan_view (sym c.of-planned.ensures))
+
+-- a log that is refused
+
+pub returns-in_err-onward-clause-bad : goal.returns-in_err-onward-clause-bad
+returns-in_err-onward-clause-bad g c = λ at is.
+    let shop = arc_value c.in-Ok.opened.shop in
+    let eyes = c.in-Ok.opened.eyes.items in
+    let m = c.in-Ok.opened.master in
+    let of = c.in-Ok.ensures.shop in
+    let log = c.args.resumes.log.now in
+    let header = c.args.resumes.header.now in
+    let kept = kept_first g.K.Kit.gives g.N.Namer.digest shop c.args.plan m eyes c.in-Ok.ensures.opened
+    (subst (λ j. IsRead (job_view j).script) (sym of.job_is) c.requires.read)
+    (subst (λ j. InputsInOrder (job_view j)) (sym of.job_is) c.requires.inputs) c.functions_are_orderly.ensures.orderly in
+    let back = subst (λ (s : Shop _ _). IsBadAt (g.N.Namer.digest s.namer) (job_view s.job) (g.K.Kit.gives s.kit) m.board.plan header log at)
+    c.deref.ensures
+    (c.in_err-onward.ensures.bad
+    (subst (λ (s : Shop _ _). Kept g.K.Kit.gives g.N.Namer.digest s true m (nobody m.board.plan.workers) m.board.plan.seed) (sym c.deref.ensures)
+    kept)
+    at (ap Err (handed_on c.from_residual.result c.in_err-onward.field-0.0 at c.from_residual.ensures.1 is))) in
+    from_first g.K.Kit.gives g.N.Namer.digest shop c.args.plan m eyes c.in-Ok.ensures.opened c.args.job c.args.kit c.args.namer of
+    (λ d j x p. IsBadAt d j x p header log at) back
 
 -- the run that was driven, where the log is one of the job's own
 

@@ -18,6 +18,7 @@ returns c =
     let five = c.in_ok-arg-5.ensures.shape c.option-5.ensures.local ∙ ap₂ with_rule four c.option-5.ensures.rule in
     let six = c.in_ok-arg-6.ensures.shape c.option-6.ensures.local ∙ ap₂ with_rule five c.option-6.ensures.rule in
     let seven = c.in_ok-arg-7.ensures.shape c.option-7.ensures.local ∙ ap₂ with_rule six c.option-7.ensures.rule in
-    let eight = c.in_ok-arg-8.ensures.shape c.flag.ensures.local ∙ ap₂ with_rule seven c.flag.ensures.rule in
-    let nine = c.in_ok-arg-9.ensures.shape c.flag-2.ensures.local ∙ ap₂ with_rule eight c.flag-2.ensures.rule in
-    IfOk-weaker c.arg-10.result _ _ (λ r h. h.shape c.words.ensures.local ∙ ap₂ with_rule nine c.words.ensures.rule) c.arg-10.ensures
+    let eight = c.in_ok-arg-8.ensures.shape c.option-8.ensures.local ∙ ap₂ with_rule seven c.option-8.ensures.rule in
+    let nine = c.in_ok-arg-9.ensures.shape c.flag.ensures.local ∙ ap₂ with_rule eight c.flag.ensures.rule in
+    let ten = c.in_ok-arg-10.ensures.shape c.flag-2.ensures.local ∙ ap₂ with_rule nine c.flag-2.ensures.rule in
+    IfOk-weaker c.arg-11.result _ _ (λ r h. h.shape c.words.ensures.local ∙ ap₂ with_rule ten c.words.ensures.rule) c.arg-11.ensures

@@ -22,8 +22,11 @@ returns-clause-log c = c.get_str-5.ensures ∙ first_value-rows (found_of c.args
 pub returns-clause-resume : goal.returns-clause-resume
 returns-clause-resume c = c.get_str-6.ensures ∙ first_value-rows (found_of c.args.matches.now) (codes "resume")
 
+pub returns-clause-steal : goal.returns-clause-steal
+returns-clause-steal c = c.get_str-7.ensures ∙ first_value-rows (found_of c.args.matches.now) (codes "steal")
+
 pub returns-clause-generate : goal.returns-clause-generate
-returns-clause-generate c = c.get_str-7.ensures ∙ first_value-rows (found_of c.args.matches.now) (codes "generate")
+returns-clause-generate c = c.get_str-8.ensures ∙ first_value-rows (found_of c.args.matches.now) (codes "generate")
 
 pub returns-clause-trace : goal.returns-clause-trace
 returns-clause-trace c =

@@ -1,6 +1,0 @@
-use Rattle.std.proofs.Common.{◌≡◌, [], length, None}
-use Rattle.std.specs.Prelude.{All}
-use Rattle.ciel_steal_pool.proofs.pool.places_of.Given as goal
-
-abbrev pub invariant-loop : goal.invariant-loop
-invariant-loop g l = (length l.all.items ≡ l.counter) × All (λ x. x ≡ record { put = []; out = None }) l.all.items
