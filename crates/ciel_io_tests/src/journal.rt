@@ -1,7 +1,7 @@
 // The journal: each call once with ample memory, and the laws at a type of names.
 
 use ciel_journal::law;
-use ciel_journal::turn::{first_due, has, idle, is_idle};
+use ciel_journal::turn::{first_due, has, idle};
 use std::test::Fail;
 
 #[test]
@@ -20,7 +20,6 @@ fn idle_workers_are_neither_lost_nor_busy(rt: HostRuntime) -> Result<(), Fail> {
         idle(rt.alloc(), 5, &[3], &[0, 1])?.as_slice(),
         [2, 4].as_slice()
     );
-    assert!(rt; !is_idle(&[3], &[], 3));
     assert!(rt; has(&[4, 2], 2));
     Ok(())
 }

@@ -40,3 +40,4 @@ pub mod SmallKnown
 pub mod Picked
 pub mod SeenAs
 pub mod SavesRise
+pub mod FlagsLaw

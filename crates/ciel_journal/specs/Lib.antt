@@ -14,3 +14,4 @@ pub mod OtherJobs
 pub mod SmallHistories
 pub mod SmallFacts
 pub mod Laws
+pub mod Flags

@@ -1,9 +1,9 @@
 //! Which workers may be given a task, and which loss comes first.
 
-ghost use Rattle.std.specs.Prelude.{◌≡◌, ℕ, List, Option, None, IfNone, IfOk, IfSome, nat_eq};
+ghost use Rattle.std.specs.Prelude.{◌≡◌, ◌∷◌, [], ℕ, List, Option, None, IfNone, IfOk, IfSome, false, nat_eq, replicate};
 ghost use Rattle.std.specs.List.{list_any};
+ghost use Rattle.ciel_journal.specs.Flags.{Sets};
 ghost use Rattle.ciel_journal.specs.Turns.{FirstDue, NothingDue, due_test, idle_workers};
-ghost use Rattle.ciel_journal.specs.Turns as turns;
 
 use std::alloc::{AllocError, Global};
 
@@ -14,20 +14,45 @@ pub fn has(workers: &[u32], worker: u32) -> bool
     workers.iter().any(|x| worker == *x)
 }
 
-/// Whether a worker is neither lost nor busy.
-pub fn is_idle(gone: &[u32], busy: &[u32], worker: u32) -> bool
-    ensures idle { result ≡ turns.is_idle gone.now busy.now worker }
+// A flag for each worker, none of them set.
+fn no_flags(alloc: Global, workers: u32) -> Result<Vec<bool>, AllocError>
+    ensures none { IfOk result (λ fs. fs.items ≡ replicate workers false) }
 {
-    !has(gone, worker) && !has(busy, worker)
+    let mut flags = Vec::with_capacity(alloc, workers as usize)?;
+    flags.resize(workers as usize, false)?;
+    Ok(flags)
 }
 
-/// Of so many workers those that are neither lost nor busy, rising.
+// Sets the flag of a worker, if it has one.
+fn set_flag(flags: &mut Vec<bool>, worker: u32)
+    ensures set { Sets (worker ∷ []) flags.old.items flags.new.items }
+{
+    let i = worker as usize;
+    if i < flags.len() {
+        flags[i] = true;
+    }
+}
+
+// Sets the flags of these workers.
+fn set_flags(flags: &mut Vec<bool>, workers: &[u32])
+    ensures set { Sets workers.now flags.old.items flags.new.items }
+{
+    for i in 0..workers.len() {
+        set_flag(flags, workers[i]);
+    }
+}
+
+/// Of so many workers those that are neither lost nor busy, rising. It takes as many steps as there are workers, lost ones and busy ones
+/// together.
 pub fn idle(alloc: Global, workers: u32, gone: &[u32], busy: &[u32]) -> Result<Vec<u32>, AllocError>
     ensures idle { IfOk result (λ ws. ws.items ≡ idle_workers workers gone.now busy.now) }
 {
-    let mut idle = Vec::new(alloc);
+    let mut flags = no_flags(alloc, workers)?;
+    set_flags(&mut flags, gone);
+    set_flags(&mut flags, busy);
+    let mut idle = Vec::with_capacity(alloc, workers as usize)?;
     for worker in 0..workers {
-        if is_idle(gone, busy, worker) {
+        if !flags[worker as usize] {
             idle.push(worker)?;
         }
     }
