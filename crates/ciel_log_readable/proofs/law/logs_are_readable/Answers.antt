@@ -1,0 +1,8 @@
+use Rattle.ciel_log_readable.proofs.Read.{all_readable, begins}
+use Rattle.ciel_log_readable.proofs.law.logs_are_readable.Goals as goal
+
+pub returns : goal.returns
+returns c = record {
+  read = λ digest job gives p header journal all w l few i. all_readable digest job gives p w header journal all l few i;
+  begun = λ digest job gives p header bytes w b. begins digest job gives p w header bytes b;
+}

@@ -1,0 +1,4 @@
+//! That each record of a run's log can be read.
+#![tactic(auto)]
+
+pub mod law;

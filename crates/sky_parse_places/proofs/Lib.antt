@@ -1,0 +1,5 @@
+pub mod Runs
+pub mod Seen
+pub mod Trees
+pub mod Tokens
+pub mod Faults
