@@ -1,7 +1,10 @@
 //! The picture of a run.
 
-ghost use Rattle.std.specs.Prelude.{IfOk};
+ghost use Rattle.std.specs.Prelude.{[], IfOk};
+ghost use Rattle.ciel_look_tasks.specs.SceneView.{scene_view};
+ghost use Rattle.ciel_look_sheet.specs.Drawn.{Draws};
 ghost use Rattle.ciel_look_sheet.specs.Picture.{IsPicture};
+ghost use Rattle.ciel_look_picture.specs.Nodes.{Shows};
 
 use crate::graph::draw_graph;
 use ciel_look_lanes::lanes::draw_lanes;
@@ -17,6 +20,7 @@ use std::alloc::Global;
 /// Answers `Memory` for want of memory.
 pub fn picture_of(alloc: Global, scene: &Scene) -> Result<Markup, Memory>
     ensures picture { IfOk result IsPicture }
+    ensures shows { IfOk result (Shows (scene_view scene.now)) }
 {
     let mut sheet = Sheet::new(alloc);
     let head = head_of(alloc, scene)?;
@@ -50,11 +54,14 @@ fn put_count(text: &mut Plain, count: usize, one: &str, more: &str) -> Result<()
 }
 
 /// What the colours and lines say.
-fn draw_legend(alloc: Global, sheet: &mut Sheet) -> Result<(), Memory> {
+fn draw_legend(alloc: Global, sheet: &mut Sheet) -> Result<(), Memory>
+    ensures drawn { IfOk result (λ _. Draws [] [] 0 sheet.old.marks sheet.new.marks) }
+{
     let mut text = Plain::new(alloc);
     text.put(
         "blue: a call; green: an executor; orange: the result; dashed: it waited or was cut; red rim: begun again; ".as_bytes(),
     )?;
     text.put("red cross: the worker was lost; dotted arrow: a copy".as_bytes())?;
-    sheet.text(8, 44, 11, "#777", &text)
+    sheet.text(8, 44, 11, "#777", &text)?;
+    Ok(())
 }

@@ -4,6 +4,7 @@ use Rattle.sky_base.specs.declared.object.TaskId.{TaskId}
 use Rattle.ciel_io.specs.Faults.{HasRisen}
 use Rattle.ciel_io.specs.Tells.{Tells as Grows, TellsPart}
 use Rattle.ciel_look_sheet.specs.Picture.{IsPicture}
+use Rattle.ciel_look_picture.specs.Nodes.{Shows}
 use Rattle.ciel_look_shown.specs.Lines.{IsLines}
 use Rattle.ciel_look_told.specs.Head.{Head}
 use Rattle.ciel_look_story.specs.Story.{NotLog, Tells}
@@ -43,11 +44,11 @@ IsThere line.picture tasks = Unit {0}
 abbrev pub IsTold : Asked → Head → List Told → Type 0
 IsTold asked head ts = IsThere asked (flat_map begun ts)
 
--- the text is, line by line, of what is seen
+-- the text is, line by line, of what is seen; the picture shows it
 abbrev pub IsOf : Asked → Seen → List ℕ → Type 0
 IsOf line.text s text = text ≡ lines.text (lines_of s)
 IsOf (line.why digits) s text = Unit {0}
-IsOf line.picture s text = Unit {0}
+IsOf line.picture s text = Shows s text
 
 -- of a run that is seen as it was told
 abbrev pub IsOfTold : Asked → List ℕ → Head → List Told → Type 0

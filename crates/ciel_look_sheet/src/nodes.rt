@@ -1,10 +1,20 @@
 //! Kinds of tasks with their colours, and their labels.
 
+ghost use Rattle.std.specs.Prelude.{◌≡◌, IfOk, Some};
+ghost use Rattle.sky_base.specs.declared.object.TaskId.{TaskId};
+ghost use Rattle.ciel_look_shown.specs.Plain.{shown};
+ghost use Rattle.ciel_look_tasks.specs.Heads.{own_desc};
+ghost use Rattle.ciel_look_tasks.specs.Known.{known_view};
+ghost use Rattle.ciel_look_tasks.specs.SceneView.{row_view};
+ghost use Rattle.ciel_look_tasks.specs.Tasks.{same_task};
+ghost use Rattle.ciel_look_sheet.specs.Titles.{named_title, row_title, task_title, whole_name};
+
 use ciel_look_shown::plain::Plain;
 use ciel_look_tasks::scene::{Scene, Task};
 use ciel_look_words::known::Known;
 use ciel_look_words::label::{label_of, whole};
 use ciel_look_words::words;
+use sky_base::name::Name;
 use sky_base::object::{Desc1, TaskId};
 use sky_base::text::Memory;
 use std::alloc::Global;
@@ -63,15 +73,47 @@ pub fn task_head(alloc: Global, scene: &Scene, task: &Task) -> Result<Plain, Mem
 }
 
 /// The whole name of a task behind its words.
-pub fn task_tip(alloc: Global, scene: &Scene, task: &Task) -> Result<Plain, Memory> {
+pub fn task_tip(alloc: Global, scene: &Scene, task: &Task) -> Result<Plain, Memory>
+    ensures title { IfOk result (λ t. t ≡ shown (row_title (row_view scene.now task.now))) }
+{
     match scene.desc_of(task) {
-        Some(known) => known_tip(alloc, known),
-        None => task_name(alloc, &task.id),
+        Some(known) => {
+            let tip = own_tip(alloc, &task.id, known)?;
+            Ok(tip)
+        }
+        None => {
+            let name = task_name(alloc, &task.id)?;
+            Ok(name)
+        }
+    }
+}
+
+/// The whole name of a task behind the words of this description, where that is its own.
+fn own_tip(alloc: Global, id: &TaskId, known: &Known) -> Result<Plain, Memory>
+    ensures title { IfOk result (λ t. t ≡ shown (task_title (own_desc id.now (Some (known_view known.now))) id.now)) }
+{
+    if is_own(id, &known.name) {
+        let tip = known_tip(alloc, known)?;
+        return Ok(tip);
+    }
+    let name = task_name(alloc, id)?;
+    Ok(name)
+}
+
+/// Whether the name is that of the task.
+fn is_own(id: &TaskId, name: &Name) -> bool
+    ensures { result ≡ same_task id.now (TaskId.Of name.now) }
+{
+    match id {
+        TaskId::Show => false,
+        TaskId::Of(own) => own == name,
     }
 }
 
 /// The whole name of a description behind its words.
-pub fn known_tip(alloc: Global, known: &Known) -> Result<Plain, Memory> {
+pub fn known_tip(alloc: Global, known: &Known) -> Result<Plain, Memory>
+    ensures title { IfOk result (λ t. t ≡ shown (named_title (known_view known.now))) }
+{
     let text = label_of(alloc, known)?;
     let mut tip = text.words;
     tip.put(", ".as_bytes())?;
@@ -79,15 +121,25 @@ pub fn known_tip(alloc: Global, known: &Known) -> Result<Plain, Memory> {
     Ok(tip)
 }
 
-fn task_name(alloc: Global, id: &TaskId) -> Result<Plain, Memory> {
+fn task_name(alloc: Global, id: &TaskId) -> Result<Plain, Memory>
+    ensures name { IfOk result (λ t. t ≡ shown (whole_name id.now)) }
+{
     match id {
-        TaskId::Show => say(alloc, "result"),
-        TaskId::Of(name) => whole(alloc, name),
+        TaskId::Show => {
+            let name = say(alloc, "result")?;
+            Ok(name)
+        }
+        TaskId::Of(name) => {
+            let digits = whole(alloc, name)?;
+            Ok(digits)
+        }
     }
 }
 
 /// Words of the program's own.
-pub fn say(alloc: Global, words: &str) -> Result<Plain, Memory> {
+pub fn say(alloc: Global, words: &str) -> Result<Plain, Memory>
+    ensures words { IfOk result (λ t. t ≡ shown words.now) }
+{
     let mut text = Plain::new(alloc);
     text.put(words.as_bytes())?;
     Ok(text)

@@ -1,7 +1,10 @@
 //! Elements of the picture. Lengths are in pixels.
 
-ghost use Rattle.std.specs.Prelude.{IfOk};
-ghost use Rattle.ciel_look_sheet.specs.Picture.{IsPicture};
+ghost use Rattle.std.specs.Prelude.{◌≡◌, [], ◌∷◌, ◌++◌, ℕ, List, IfOk};
+ghost use Rattle.ciel_look_shown.specs.Markup.{element_bytes, leaf_bytes};
+ghost use Rattle.ciel_look_shown.specs.declared.tag.Tag.{Tag};
+ghost use Rattle.ciel_look_sheet.specs.Drawn.{Draws, title_bytes, words_bytes};
+ghost use Rattle.ciel_look_sheet.specs.Picture.{Holds, IsPicture};
 
 use ciel_look_shown::markup::{Attributes, Markup};
 use ciel_look_shown::plain::Plain;
@@ -46,7 +49,9 @@ pub struct Way {
 
 impl Sheet {
     /// Nothing is drawn.
-    pub fn new(alloc: Global) -> Sheet {
+    pub fn new(alloc: Global) -> Sheet
+        ensures marks { result.marks ≡ [] }
+    {
         Sheet {
             alloc,
             marks: Markup::new(alloc),
@@ -63,7 +68,9 @@ impl Sheet {
         size: u64,
         colour: &str,
         text: &Plain,
-    ) -> Result<(), Memory> {
+    ) -> Result<(), Memory>
+        ensures drawn { IfOk result (λ _. Draws [] [] 0 self.old.marks self.new.marks) }
+    {
         let alloc = self.alloc;
         put_text(alloc, &mut self.marks, x, y, size, colour, text)?;
         self.reach(x.saturating_add(text.len().saturating_mul(7)), y);
@@ -78,7 +85,9 @@ impl Sheet {
         size: u64,
         text: &Plain,
         tip: &Plain,
-    ) -> Result<(), Memory> {
+    ) -> Result<(), Memory>
+        ensures drawn { IfOk result (λ _. Draws (tip.now ∷ []) [] 0 self.old.marks self.new.marks) }
+    {
         let alloc = self.alloc;
         let mut inner = Markup::new(alloc);
         put_title(alloc, &mut inner, tip)?;
@@ -104,7 +113,9 @@ impl Sheet {
     }
 
     /// A straight line.
-    pub fn line(&mut self, way: Way, colour: &str) -> Result<(), Memory> {
+    pub fn line(&mut self, way: Way, colour: &str) -> Result<(), Memory>
+        ensures drawn { IfOk result (λ _. Draws [] [] 0 self.old.marks self.new.marks) }
+    {
         let alloc = self.alloc;
         let mut attributes = Attributes::new(alloc);
         number(alloc, &mut attributes, Attribute::X1, way.x)?;
@@ -118,32 +129,22 @@ impl Sheet {
     }
 
     /// An arrow, and a text that tells what it is.
-    pub fn arrow(
-        &mut self,
-        way: Way,
-        colour: &str,
-        dashed: bool,
-        tip: &Plain,
-    ) -> Result<(), Memory> {
+    pub fn arrow(&mut self, way: Way, colour: &str, dashed: bool, tip: &Plain) -> Result<(), Memory>
+        ensures drawn { IfOk result (λ _. Draws [] (tip.now ∷ []) 0 self.old.marks self.new.marks) }
+    {
         let alloc = self.alloc;
         let mut inner = Markup::new(alloc);
         put_title(alloc, &mut inner, tip)?;
-        let mut attributes = Attributes::new(alloc);
-        let path = curve(alloc, way)?;
-        attributes.put(alloc, Attribute::D, &path)?;
-        word(alloc, &mut attributes, Attribute::Fill, "none")?;
-        word(alloc, &mut attributes, Attribute::Stroke, colour)?;
-        word(alloc, &mut attributes, Attribute::MarkerEnd, "url(#a)")?;
-        if dashed {
-            word(alloc, &mut attributes, Attribute::StrokeDash, "2 3")?;
-        }
-        inner.put_leaf(alloc, Tag::Path, &attributes)?;
+        put_path(alloc, &mut inner, way, colour, dashed)?;
         let none = Attributes::new(alloc);
-        self.marks.put_element(alloc, Tag::Group, &none, &inner)
+        self.marks.put_element(alloc, Tag::Group, &none, &inner)?;
+        Ok(())
     }
 
     /// A cross.
-    pub fn cross(&mut self, x: usize, y: usize) -> Result<(), Memory> {
+    pub fn cross(&mut self, x: usize, y: usize) -> Result<(), Memory>
+        ensures drawn { IfOk result (λ _. Draws [] [] 1 self.old.marks self.new.marks) }
+    {
         let alloc = self.alloc;
         let mut path = Plain::new(alloc);
         point(&mut path, "M", x.saturating_sub(7), y.saturating_sub(7))?;
@@ -152,11 +153,14 @@ impl Sheet {
         attributes.put(alloc, Attribute::D, &path)?;
         word(alloc, &mut attributes, Attribute::Stroke, "#c00")?;
         word(alloc, &mut attributes, Attribute::StrokeWidth, "3")?;
-        self.marks.put_leaf(alloc, Tag::Path, &attributes)
+        self.marks.put_leaf(alloc, Tag::Path, &attributes)?;
+        Ok(())
     }
 
     /// What is drawn reaches so far.
-    fn reach(&mut self, x: usize, y: usize) {
+    fn reach(&mut self, x: usize, y: usize)
+        ensures marks { self.new.marks ≡ self.old.marks }
+    {
         self.right = self.right.max(x);
         self.low = self.low.max(y);
     }
@@ -164,6 +168,7 @@ impl Sheet {
     /// The whole picture.
     pub fn finish(self) -> Result<Markup, Memory>
         ensures picture { IfOk result IsPicture }
+        ensures drawn { IfOk result (Holds self.marks) }
     {
         let alloc = self.alloc;
         let width = self.right.saturating_add(20);
@@ -183,13 +188,15 @@ impl Sheet {
         number(alloc, &mut attributes, Attribute::Width, width)?;
         number(alloc, &mut attributes, Attribute::Height, height)?;
         word(alloc, &mut attributes, Attribute::FontFamily, "sans-serif")?;
-        whole(alloc, &attributes, &inner)
+        let picture = whole(alloc, &attributes, &inner)?;
+        Ok(picture)
     }
 }
 
 /// The picture with these attributes, with this in it.
 fn whole(alloc: Global, attributes: &Attributes, inner: &Markup) -> Result<Markup, Memory>
     ensures picture { IfOk result IsPicture }
+    ensures bytes { IfOk result (λ text. text ≡ element_bytes Tag.Svg attributes.now inner.now) }
 {
     let mut picture = Markup::new(alloc);
     picture.put_element(alloc, Tag::Svg, attributes, inner)?;
@@ -210,14 +217,19 @@ fn fitting(alloc: Global, text: &Plain, width: usize) -> Result<Plain, Memory> {
     Ok(label)
 }
 
-fn put_title(alloc: Global, marks: &mut Markup, tip: &Plain) -> Result<(), Memory> {
+fn put_title(alloc: Global, marks: &mut Markup, tip: &Plain) -> Result<(), Memory>
+    ensures put { IfOk result (λ _. marks.new ≡ marks.old ++ title_bytes tip.now) }
+{
     let mut inner = Markup::new(alloc);
     inner.put_text(alloc, tip)?;
     let attributes = Attributes::new(alloc);
-    marks.put_element(alloc, Tag::Title, &attributes, &inner)
+    marks.put_element(alloc, Tag::Title, &attributes, &inner)?;
+    Ok(())
 }
 
-fn put_box(alloc: Global, marks: &mut Markup, area: Area, look: Look) -> Result<(), Memory> {
+fn put_box(alloc: Global, marks: &mut Markup, area: Area, look: Look) -> Result<(), Memory>
+    ensures put { IfOk result (λ _. (shape : List ℕ) × (marks.new ≡ marks.old ++ leaf_bytes Tag.Rect shape)) }
+{
     let mut attributes = Attributes::new(alloc);
     number(alloc, &mut attributes, Attribute::X, area.x)?;
     number(alloc, &mut attributes, Attribute::Y, area.y)?;
@@ -225,7 +237,36 @@ fn put_box(alloc: Global, marks: &mut Markup, area: Area, look: Look) -> Result<
     number(alloc, &mut attributes, Attribute::Height, area.height)?;
     word(alloc, &mut attributes, Attribute::Rx, "4")?;
     put_look(alloc, &mut attributes, look)?;
-    marks.put_leaf(alloc, Tag::Rect, &attributes)
+    marks.put_leaf(alloc, Tag::Rect, &attributes)?;
+    Ok(())
+}
+
+/// The line of an arrow.
+fn put_path(
+    alloc: Global,
+    marks: &mut Markup,
+    way: Way,
+    colour: &str,
+    dashed: bool,
+) -> Result<(), Memory>
+    ensures put { IfOk result (λ _. (path : List ℕ) × (marks.new ≡ marks.old ++ leaf_bytes Tag.Path path)) }
+{
+    let mut attributes = Attributes::new(alloc);
+    let path = curve(alloc, way)?;
+    attributes.put(alloc, Attribute::D, &path)?;
+    word(alloc, &mut attributes, Attribute::Fill, "none")?;
+    word(alloc, &mut attributes, Attribute::Stroke, colour)?;
+    word(alloc, &mut attributes, Attribute::MarkerEnd, "url(#a)")?;
+    put_dashes(alloc, &mut attributes, dashed)?;
+    marks.put_leaf(alloc, Tag::Path, &attributes)?;
+    Ok(())
+}
+
+fn put_dashes(alloc: Global, attributes: &mut Attributes, dashed: bool) -> Result<(), Memory> {
+    if dashed {
+        word(alloc, attributes, Attribute::StrokeDash, "2 3")?;
+    }
+    Ok(())
 }
 
 fn put_look(alloc: Global, attributes: &mut Attributes, look: Look) -> Result<(), Memory> {
@@ -253,7 +294,9 @@ fn put_text(
     size: u64,
     colour: &str,
     text: &Plain,
-) -> Result<(), Memory> {
+) -> Result<(), Memory>
+    ensures put { IfOk result (λ _. (place : List ℕ) × (marks.new ≡ marks.old ++ words_bytes place text.now)) }
+{
     let mut inner = Markup::new(alloc);
     inner.put_text(alloc, text)?;
     let mut attributes = Attributes::new(alloc);
@@ -261,7 +304,8 @@ fn put_text(
     number(alloc, &mut attributes, Attribute::Y, y)?;
     number(alloc, &mut attributes, Attribute::FontSize, size as usize)?;
     word(alloc, &mut attributes, Attribute::Fill, colour)?;
-    marks.put_element(alloc, Tag::Text, &attributes, &inner)
+    marks.put_element(alloc, Tag::Text, &attributes, &inner)?;
+    Ok(())
 }
 
 /// The head of an arrow.

@@ -14,4 +14,5 @@ returns-clause-ends g c = put_ends _ _ _ _ (ids c.args.scene.now.roll.tasks.item
 pub returns-clause-wrote : goal.returns-clause-wrote
 returns-clause-wrote g c =
     put_wrote _ _ _ _ seen.picture (IsOf seen.picture (scene_view c.args.scene.now)) c.as_slice.result.now
-    (subst IsPicture (sym c.as_slice.ensures.value) c.in-Ok.ensures.picture) tt c.put.result c.put.ensures.put
+    (subst IsPicture (sym c.as_slice.ensures.value) c.in-Ok.ensures.picture)
+    (subst (IsOf seen.picture (scene_view c.args.scene.now)) (sym c.as_slice.ensures.value) c.in-Ok.ensures.shows) c.put.result c.put.ensures.put
