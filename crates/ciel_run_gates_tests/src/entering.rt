@@ -44,7 +44,7 @@ fn ran<R: Threads + Wait + Copy + Send + Drop + 'static>(
 {
     let job = job(alloc)?;
     let plan = plan(alloc, workers);
-    let hands = Hands::of(workers, None);
+    let hands = Hands::of(workers, None, false);
     Ok(run_job(rt, alloc, job, kit, Sha1Namer, gates, plan, hands))
 }
 

@@ -14,6 +14,7 @@ use line_kit::kit::LineKit;
 use sky_base::name::Name;
 use sky_base::object::TaskId;
 use std::alloc::Global;
+use std::process::Abort;
 use std::sync::Wait;
 use std::test::Fail;
 use std::thread::Threads;
@@ -41,11 +42,12 @@ fn gates(alloc: Global, limit: u32) -> Result<Vec<Meeting>, Fail>
     Ok(gates)
 }
 
-// The run of the word count on so many workers with these gates.
+// The run of the word count on so many workers with these gates, with streams or without.
 fn ran<R: Threads + Wait + Copy + Send + Drop + 'static>(
     rt: R,
     alloc: Global,
     workers: u32,
+    streamed: bool,
     gates: &mut Vec<Meeting>,
 ) -> Result<Ran, Fail>
     requires gates { length gates.old.items ≡ 2 }
@@ -53,7 +55,7 @@ fn ran<R: Threads + Wait + Copy + Send + Drop + 'static>(
 {
     let job = job(alloc)?;
     let plan = plan(alloc, workers);
-    let hands = Hands::of(workers, None);
+    let hands = Hands::of(workers, None, streamed);
     Ok(run_job(rt, alloc, job, LineKit, Sha1Namer, gates, plan, hands))
 }
 
@@ -77,22 +79,37 @@ fn met(gates: &[Meeting]) -> usize {
     count
 }
 
-#[test]
-fn two_tasks_are_performed_at_the_same_time(rt: HostRuntime) -> Result<(), Fail> {
-    let mut gates = gates(rt.alloc(), LIMIT)?;
-    let ran = ran(rt, rt.alloc(), 2, &mut gates)?;
-    assert!(&rt; answers(&ran.end));
-    assert_eq!(&rt; met(gates.as_slice()), 2);
+// So many gates meet, on so many workers, each of which waits so many turns.
+fn meets<R: Abort + Threads + Wait + Copy + Send + Drop + 'static>(
+    rt: R,
+    alloc: Global,
+    workers: u32,
+    streamed: bool,
+    limit: u32,
+    many: usize,
+) -> Result<(), Fail>
+    requires workers { (0 < workers) × (workers ≤ 2) }
+{
+    let mut gates = gates(alloc, limit)?;
+    let ran = ran(rt, alloc, workers, streamed, &mut gates)?;
+    assert!(rt; answers(&ran.end));
+    assert_eq!(rt; met(gates.as_slice()), many);
     Ok(())
 }
 
 #[test]
+fn two_tasks_are_performed_at_the_same_time(rt: HostRuntime) -> Result<(), Fail> {
+    meets(rt, rt.alloc(), 2, false, LIMIT, 2)
+}
+
+#[test]
+fn two_tasks_are_performed_at_the_same_time_beside_streams(rt: HostRuntime) -> Result<(), Fail> {
+    meets(rt, rt.alloc(), 2, true, LIMIT, 2)
+}
+
+#[test]
 fn one_worker_performs_one_task_after_the_other(rt: HostRuntime) -> Result<(), Fail> {
-    let mut gates = gates(rt.alloc(), FEW)?;
-    let ran = ran(rt, rt.alloc(), 1, &mut gates)?;
-    assert!(&rt; answers(&ran.end));
-    assert_eq!(&rt; met(gates.as_slice()), 1);
-    Ok(())
+    meets(rt, rt.alloc(), 1, false, FEW, 1)
 }
 
 // The worker that was the first to start one of the two tasks.

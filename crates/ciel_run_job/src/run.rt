@@ -4,7 +4,7 @@ ghost use Rattle.std.specs.Prelude.{[], ◌≡◌, ◌≢◌, ◌≤◌, ◌⊎�
 ghost use Rattle.std.specs.Arc.{arc_value};
 ghost use Rattle.sky_base.specs.JobView.{job_view};
 ghost use Rattle.ciel_crew_channels.specs.Onward.{IsRead};
-ghost use Rattle.ciel_crew_choice.specs.Kinds.{IsFew};
+ghost use Rattle.ciel_crew_choice.specs.Kinds.{IsFor, IsOverLines};
 ghost use Rattle.ciel_journal.specs.Job.{Each};
 ghost use Rattle.ciel_run_drive.specs.Working.{Working};
 ghost use Rattle.ciel_run_drive.specs.Ended.{EndsSo};
@@ -23,6 +23,7 @@ use ciel_crew_channels::channels::Channels;
 use ciel_crew_choice::hands::Hands;
 use ciel_crew_inline::inline::Inline;
 use ciel_crew_rounds::rounds::Rounds;
+use ciel_flow::streams::Streams;
 use ciel_gate::gate::Gate;
 use ciel_name::name::Namer;
 use ciel_run_drive::crew::Crew;
@@ -75,7 +76,7 @@ where
     requires workers { (0 < plan.workers) × (plan.workers ≤ 64) }
     requires gates { plan.workers ≤ length gates.old.items }
     requires losses { Each (λ (loss : ℕ × ℕ). loss.1 < plan.workers) plan.losses }
-    requires hands { IsFew hands }
+    requires hands { IsFor (K.gives kit) hands }
     ensures end { EndsSo (N.digest namer) (job_view job) (K.gives kit) (plan_view plan) (map entry_view result.journal.items) result.end }
     ensures told { result.end ≢ RunEnd.Memory → ToldBy (map entry_view result.journal.items) (told_of G.entered plan.workers gates.old.items)
         (told_of G.entered plan.workers gates.new.items) }
@@ -286,7 +287,7 @@ where
     requires seed { seed ≡ plan.value.seed }
     requires gates { length gates.items ≡ plan.value.workers }
     requires workers { (0 < plan.value.workers) × (plan.value.workers ≤ 64) }
-    requires hands { IsFew hands }
+    requires hands { IsFor (K.gives (arc_value opened.shop).kit) hands }
     ensures end { EndsSo (N.digest (arc_value opened.shop).namer) (job_view (arc_value opened.shop).job) (K.gives (arc_value opened.shop).kit)
         (plan_view plan.value) (map entry_view result.0.journal.items) result.0.end }
     ensures told { result.0.end ≢ RunEnd.Memory
@@ -300,6 +301,10 @@ where
         }
         Hands::Own => {
             let back = on_threads(rt, alloc, opened, gates, plan, seed);
+            back
+        }
+        Hands::Streamed => {
+            let back = on_streams(rt, alloc, opened, gates, plan, seed);
             back
         }
         Hands::Shared(threads) => {
@@ -374,6 +379,41 @@ where
     functions_are_orderly();
     let Opened { shop, master, eyes } = opened;
     match Steal::open(rt, alloc, shop, gates, eyes, threads) {
+        Ok(crew) => run_over(master, crew, seed),
+        Err((gates, Memory)) => (not_begun(alloc), gates),
+    }
+}
+
+/// Runs what was opened on a crew of threads that begin on what is still made, with these gates, and hands them back.
+fn on_streams<K, N, G, R>(
+    rt: R,
+    alloc: Global,
+    opened: Opened<K, N>,
+    gates: Vec<G>,
+    plan: Snapshot<RunPlan>,
+    seed: u64,
+) -> (Ran, Vec<G>)
+where
+    K: Kit + Send + Sync + Drop + 'static,
+    N: Namer + Send + Sync + Drop + 'static,
+    G: Gate + Send + 'static,
+    R: Threads + Wait + Copy + Send + Drop + 'static,
+    requires opened { IsOpened N.digest plan.value (arc_value opened.shop) opened.master opened.eyes.items }
+    requires read { IsRead (job_view (arc_value opened.shop).job).script }
+    requires inputs { InputsInOrder (job_view (arc_value opened.shop).job) }
+    requires seed { seed ≡ plan.value.seed }
+    requires gates { length gates.items ≡ plan.value.workers }
+    requires workers { (0 < plan.value.workers) × (plan.value.workers ≤ 64) }
+    requires flow { IsOverLines (K.gives (arc_value opened.shop).kit) }
+    ensures end { EndsSo (N.digest (arc_value opened.shop).namer) (job_view (arc_value opened.shop).job) (K.gives (arc_value opened.shop).kit)
+        (plan_view plan.value) (map entry_view result.0.journal.items) result.0.end }
+    ensures told { result.0.end ≢ RunEnd.Memory
+        → ToldBy (map entry_view result.0.journal.items) (map G.entered gates.items) (map G.entered result.1.items) }
+    ensures all { result.0.end ≢ RunEnd.Memory → length result.1.items ≡ length gates.items }
+{
+    functions_are_orderly();
+    let Opened { shop, master, eyes } = opened;
+    match Streams::open(rt, alloc, shop, gates, eyes) {
         Ok(crew) => run_over(master, crew, seed),
         Err((gates, Memory)) => (not_begun(alloc), gates),
     }

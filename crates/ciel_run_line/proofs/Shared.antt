@@ -9,4 +9,4 @@ few_threads w s = at w.steal refl
   where
     at : (o : Option ℕ) → w.steal ≡ o → IfSome o (λ threads. threads ≤ 64)
     at None e = tt
-    at (Some t) e = (s.shared t e).2
+    at (Some t) e = (s.shared t e).3

@@ -21,7 +21,7 @@ ghost use Rattle.ciel_log_file.specs.Whole.{BeginsOther};
 ghost use Rattle.ciel_log_refuses.specs.Refusals.{IsBadAt};
 ghost use Rattle.ciel_log_records.specs.Records.{in_file};
 ghost use Rattle.ciel_run_logged.specs.Keeping.{IfOver, Keeps};
-ghost use Rattle.ciel_run_logged.specs.Kinds.{IsFew};
+ghost use Rattle.ciel_run_logged.specs.Kinds.{IsFor};
 ghost use Rattle.ciel_run_resumed.specs.Gates.{ToldSince};
 ghost use Rattle.ciel_run_resumed.specs.Keeping.{KeptBy};
 ghost use Rattle.ciel_run_resumed.specs.Resuming.{FileTells, RefusesSo, Replays};
@@ -135,7 +135,7 @@ where
     requires workers { (0 < plan.workers) × (plan.workers ≤ 64) }
     requires losses { Each (λ (loss : ℕ × ℕ). loss.1 < plan.workers) plan.losses }
     requires gates { length gates.old.items ≡ 64 }
-    requires hands { IsFew hands }
+    requires hands { IsFor gives hands }
     ensures end { EndsSo (digest_of names) (job_view job) gives (plan_view plan) (map entry_view result.journal.items) result.end }
     ensures told { result.end ≢ RunEnd.Memory → ToldBy (map entry_view result.journal.items) (told_of G.entered plan.workers gates.old.items)
         (told_of G.entered plan.workers gates.new.items) }
@@ -169,7 +169,7 @@ where
     requires losses { Each (λ (loss : ℕ × ℕ). loss.1 < plan.workers) plan.losses }
     requires gates { length gates.old.items ≡ 64 }
     requires held { log.held ≤ most }
-    requires hands { IsFew hands }
+    requires hands { IsFor gives hands }
     ensures end { EndsSo (digest_of names) (job_view job) gives (plan_view plan) (map entry_view result.ran.journal.items) result.ran.end }
     ensures told { result.ran.end ≢ RunEnd.Memory
         → ToldBy (map entry_view result.ran.journal.items) (told_of G.entered plan.workers gates.old.items)
@@ -238,7 +238,7 @@ where
     requires keys { AllByRecursion (λ (i : List ℕ × List ℕ). length i.0 ≤ most_name) (job_view loaded.job).inputs }
     requires few { length (job_view loaded.job).inputs ≤ most_inputs }
     requires gates { length gates.old.items ≡ 64 }
-    requires hands { IsFew hands }
+    requires hands { IsFor gives hands }
     ensures answers { AnswersSo line.now (map entry_view result.journal.items) (job_view loaded.job) result.result }
     ensures ways { WaySo line.now (map entry_view result.journal.items) result.result }
     ensures told { result.result ≢ Err Why.Memory
@@ -291,7 +291,7 @@ where
     requires gates { length gates.old.items ≡ 64 }
     requires short { length (in_file resumes.header.now) ≤ most }
     requires log { length resumes.log.now ≤ most }
-    requires hands { IsFew hands }
+    requires hands { IsFor gives hands }
     ensures other { result ≡ Err NotResumedSeen.OtherJob → BeginsOther resumes.entry.log.now resumes.entry.header.now }
     ensures of_other { BeginsOther resumes.entry.log.now resumes.entry.header.now
         → (result ≡ Err NotResumedSeen.OtherJob) ⊎ (result ≡ Err NotResumedSeen.Memory) }
@@ -377,7 +377,7 @@ where
     requires few { length (job_view loaded.job).inputs ≤ most_inputs }
     requires gates { length gates.old.items ≡ 64 }
     requires log { length log.now ≤ most }
-    requires hands { IsFew hands }
+    requires hands { IsFor gives hands }
     ensures answers { OwnIfRead line.now loaded.source (job_view loaded.job).inputs (job_view loaded.job) (Some log.now)
         → AnswersSo line.now (map entry_view result.journal.items) (job_view loaded.job) result.result }
     ensures ways { WaySo line.now (map entry_view result.journal.items) result.result }
@@ -481,7 +481,7 @@ where
     let Ok(plan) = plan(alloc, line) else {
         return not_run(alloc, Why::Memory);
     };
-    let hands = Hands::of(line.workers, line.steal);
+    let hands = Hands::of(line.workers, line.steal, line.stream);
     if let Some(path) = &line.log {
         return answer_with_log(rt, alloc, line, path, loaded, plan, hands, gates, keep);
     }

@@ -62,7 +62,7 @@ clash_text kept given =
 -- the message with its line feed; there is none where the answer was written
 abbrev pub message_of : Why → List ℕ
 message_of Why.Done = []
-message_of Why.Usage = codes "ciel: usage: ciel SCRIPT [--workers N] [--seed N] [--lose K:W,K:W] [--trace] [--plain] [NAME=PATH]... [--names sha1|sha256] [--steal T] [--log PATH] [--resume PATH] or ciel --generate N\n"
+message_of Why.Usage = codes "ciel: usage: ciel SCRIPT [--workers N] [--seed N] [--lose K:W,K:W] [--trace] [--plain] [NAME=PATH]... [--names sha1|sha256] [--stream] [--steal T] [--log PATH] [--resume PATH] or ciel --generate N\n"
 message_of (Why.Syntax kind line col) = placed (codes "ciel: syntax ") (syntax_name kind) line col
 message_of (Why.Fault fault) = placed (codes "ciel: fault ") (fault_name fault.kind) fault.line fault.col
 message_of (Why.Endless names) = endless_text names

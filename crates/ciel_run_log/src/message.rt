@@ -31,7 +31,7 @@ pub fn put_message<J: Sink>(why: &Why, log: &mut J) -> Result<(), Failed>
     match why {
         Why::Done => Ok(()),
         Why::Usage => log.put(
-            b"ciel: usage: ciel SCRIPT [--workers N] [--seed N] [--lose K:W,K:W] [--trace] [--plain] [NAME=PATH]... [--names sha1|sha256] [--steal T] [--log PATH] [--resume PATH] or ciel --generate N\n",
+            b"ciel: usage: ciel SCRIPT [--workers N] [--seed N] [--lose K:W,K:W] [--trace] [--plain] [NAME=PATH]... [--names sha1|sha256] [--stream] [--steal T] [--log PATH] [--resume PATH] or ciel --generate N\n",
         ),
         Why::Syntax { kind, line, col } => put_place(
             log,

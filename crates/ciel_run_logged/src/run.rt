@@ -3,7 +3,7 @@
 ghost use Rattle.std.specs.Prelude.{◌≡◌, ◌≢◌, ◌≤◌, ◌<◌, ◌^◌, ℕ, [], drop, length, map};
 ghost use Rattle.std.specs.Arc.{arc_value};
 ghost use Rattle.sky_base.specs.JobView.{job_view};
-ghost use Rattle.ciel_run_job.specs.Kinds.{IsFew};
+ghost use Rattle.ciel_run_job.specs.Kinds.{IsFor, IsOverLines};
 ghost use Rattle.ciel_run_job.specs.Onward.{IsRead};
 ghost use Rattle.ciel_journal.specs.Job.{Each};
 ghost use Rattle.ciel_task_crew.specs.Seen.{AllLook};
@@ -36,6 +36,7 @@ use ciel_run_job::inline::Inline;
 use ciel_run_job::opening::Opened;
 use ciel_run_job::run::{Begun, Ran, begin, not_begun, put_back};
 use ciel_run_job::steal::Steal;
+use ciel_run_job::streams::Streams;
 use ciel_store::seats::Eye;
 use ciel_task_crew::crew::Crew;
 use ciel_task_order::shop::Shop;
@@ -92,7 +93,7 @@ where
     requires gates { plan.workers ≤ length gates.old.items }
     requires losses { Each (λ (loss : ℕ × ℕ). loss.1 < plan.workers) plan.losses }
     requires held { log.held ≤ most }
-    requires hands { IsFew hands }
+    requires hands { IsFor (K.gives kit) hands }
     ensures end { EndsSo (N.digest namer) (job_view job) (K.gives kit) (plan_view plan) (map entry_view result.ran.journal.items) result.ran.end }
     ensures told { result.ran.end ≢ RunEnd.Memory
         → ToldBy (map entry_view result.ran.journal.items) (told_of G.entered plan.workers gates.old.items)
@@ -158,7 +159,7 @@ where
     requires gates { length gates.items ≡ plan.value.workers }
     requires workers { (0 < plan.value.workers) × (plan.value.workers ≤ 64) }
     requires held { log.held ≤ most }
-    requires hands { IsFew hands }
+    requires hands { IsFor (K.gives (arc_value opened.shop).kit) hands }
     ensures end { EndsSo (N.digest (arc_value opened.shop).namer) (job_view (arc_value opened.shop).job) (K.gives (arc_value opened.shop).kit)
         (plan_view plan.value) (map entry_view result.0.ran.journal.items) result.0.ran.end }
     ensures told { result.0.ran.end ≢ RunEnd.Memory
@@ -178,6 +179,10 @@ where
         }
         Hands::Own => {
             let back = on_threads(rt, alloc, opened, gates, plan, seed, keep, log);
+            back
+        }
+        Hands::Streamed => {
+            let back = on_streams(rt, alloc, opened, gates, plan, seed, keep, log);
             back
         }
         Hands::Shared(threads) => {
@@ -288,6 +293,59 @@ where
         return (no_run(alloc), gates);
     };
     match Steal::open(rt, alloc, shop, gates, eyes, threads) {
+        Ok(crew) => run_over(alloc, master, crew, seed, shared, eye, keep, log),
+        Err((gates, Memory)) => (no_run(alloc), gates),
+    }
+}
+
+/// Runs what was opened on a crew of threads that begin on what is still made, with these gates, and hands them back.
+fn on_streams<K, N, G, D, R>(
+    rt: R,
+    alloc: Global,
+    opened: Opened<K, N>,
+    gates: Vec<G>,
+    plan: Snapshot<RunPlan>,
+    seed: u64,
+    keep: &mut D,
+    log: Begins,
+) -> (RanLogged, Vec<G>)
+where
+    K: Kit + Send + Sync + Drop + 'static,
+    N: Namer + Send + Sync + Drop + 'static,
+    G: Gate + Send + 'static,
+    D: Keep,
+    R: Threads + Wait + Copy + Send + Drop + 'static,
+    requires opened { IsOpened N.digest plan.value (arc_value opened.shop) opened.master opened.eyes.items }
+    requires read { IsRead (job_view (arc_value opened.shop).job).script }
+    requires inputs { InputsInOrder (job_view (arc_value opened.shop).job) }
+    requires seed { seed ≡ plan.value.seed }
+    requires gates { length gates.items ≡ plan.value.workers }
+    requires workers { (0 < plan.value.workers) × (plan.value.workers ≤ 64) }
+    requires held { log.held ≤ most }
+    requires flow { IsOverLines (K.gives (arc_value opened.shop).kit) }
+    ensures end { EndsSo (N.digest (arc_value opened.shop).namer) (job_view (arc_value opened.shop).job) (K.gives (arc_value opened.shop).kit)
+        (plan_view plan.value) (map entry_view result.0.ran.journal.items) result.0.ran.end }
+    ensures told { result.0.ran.end ≢ RunEnd.Memory
+        → ToldBy (map entry_view result.0.ran.journal.items) (map G.entered gates.items) (map G.entered result.1.items) }
+    ensures all { result.0.ran.end ≢ RunEnd.Memory → length result.1.items ≡ length gates.items }
+    ensures keeps { result.0.ran.end ≢ RunEnd.Memory → Keeps log.path log.held
+        (record { files = D.files keep.old; asked = D.asked keep.old; faults = D.faults keep.old })
+        (record { files = D.files keep.new; asked = D.asked keep.new; faults = D.faults keep.new }) result.0.state }
+    ensures written { IfOver result.0.ran.end (LogWritten (N.digest (arc_value opened.shop).namer) (job_view (arc_value opened.shop).job)
+        (K.gives (arc_value opened.shop).kit) (plan_view plan.value) log.path log.held (D.files keep.old) (D.files keep.new)
+        (map entry_view result.0.ran.journal.items) result.0.state) }
+{
+    functions_are_orderly();
+    let Opened {
+        shop,
+        master,
+        mut eyes,
+    } = opened;
+    let eye = another_eye(&shop, &mut eyes);
+    let Ok(shared) = Arc::try_clone(&shop) else {
+        return (no_run(alloc), gates);
+    };
+    match Streams::open(rt, alloc, shop, gates, eyes) {
         Ok(crew) => run_over(alloc, master, crew, seed, shared, eye, keep, log),
         Err((gates, Memory)) => (no_run(alloc), gates),
     }

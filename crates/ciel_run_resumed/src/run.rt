@@ -3,7 +3,7 @@
 ghost use Rattle.std.specs.Prelude.{◌≡◌, ◌≢◌, ◌≤◌, ◌⊎◌, ◌<◌, ◌^◌, ◌∷◌, ℕ, List, [], Err, IfErr, IfNone, IfOk, IfSome, None, OnOk, drop, length, map, true};
 ghost use Rattle.std.specs.Arc.{arc_value};
 ghost use Rattle.sky_base.specs.JobView.{job_view};
-ghost use Rattle.ciel_run_job.specs.Kinds.{IsFew};
+ghost use Rattle.ciel_run_job.specs.Kinds.{IsFor, IsOverLines};
 ghost use Rattle.ciel_run_job.specs.Onward.{IsRead};
 ghost use Rattle.ciel_journal.specs.Entries.{Entry};
 ghost use Rattle.ciel_journal.specs.Job.{Each};
@@ -57,6 +57,7 @@ use ciel_run_job::inline::Inline;
 use ciel_run_job::opening::{Opened, open};
 use ciel_run_job::run::{Ran, put_back};
 use ciel_run_job::steal::Steal;
+use ciel_run_job::streams::Streams;
 use ciel_run_logged::run::{Begins, RanLogged, another_eye, handed_back, no_run};
 use ciel_store::seats::Eye;
 use ciel_task_crew::crew::Crew;
@@ -133,7 +134,7 @@ where
     requires workers { (0 < plan.workers) × (plan.workers ≤ 64) }
     requires gates { plan.workers ≤ length gates.old.items }
     requires losses { Each (λ (loss : ℕ × ℕ). loss.1 < plan.workers) plan.losses }
-    requires hands { IsFew hands }
+    requires hands { IsFor (K.gives kit) hands }
     requires short { length (in_file resumes.header.now) ≤ most }
     requires log { length resumes.log.now ≤ most }
 
@@ -279,7 +280,7 @@ where
     requires many { length opened.eyes.items ≡ plan.value.workers }
     requires gates { length gates.items ≡ plan.value.workers }
     requires plan { opened.master.board.plan ≡ plan_view plan.value }
-    requires hands { IsFew hands }
+    requires hands { IsFor (K.gives (arc_value opened.shop).kit) hands }
     requires held { onward.log.held ≤ most }
     requires takes { Each (Takes K.gives N.digest (arc_value opened.shop)) onward.out.items }
     requires sends { CanSend (nobody plan.value.workers) onward.out.items }
@@ -305,6 +306,10 @@ where
         }
         Hands::Own => {
             let back = on_threads(rt, alloc, opened, gates, plan, keep, onward);
+            back
+        }
+        Hands::Streamed => {
+            let back = on_streams(rt, alloc, opened, gates, plan, keep, onward);
             back
         }
         Hands::Shared(threads) => {
@@ -423,6 +428,63 @@ where
         return (no_run(alloc), gates);
     };
     match Steal::open(rt, alloc, shop, gates, eyes, threads) {
+        Ok(crew) => run_over(alloc, master, crew, shared, eye, keep, onward),
+        Err((gates, Memory)) => (no_run(alloc), gates),
+    }
+}
+
+/// Runs on over a crew of threads that begin on what is still made, with these gates, and hands them back.
+fn on_streams<K, N, G, D, R>(
+    rt: R,
+    alloc: Global,
+    opened: Opened<K, N>,
+    gates: Vec<G>,
+    plan: Snapshot<RunPlan>,
+    keep: &mut D,
+    onward: Onward,
+) -> (RanLogged, Vec<G>)
+where
+    K: Kit + Send + Sync + Drop + 'static,
+    N: Namer + Send + Sync + Drop + 'static,
+    G: Gate + Send + 'static,
+    D: Keep,
+    R: Threads + Wait + Copy + Send + Drop + 'static,
+    requires read { IsRead (job_view (arc_value opened.shop).job).script }
+    requires inputs { InputsInOrder (job_view (arc_value opened.shop).job) }
+    requires wide { (0 < plan.value.workers) × (plan.value.workers ≤ 64) }
+    requires of { AllLook (arc_value opened.shop) opened.eyes.items }
+    requires many { length opened.eyes.items ≡ plan.value.workers }
+    requires gates { length gates.items ≡ plan.value.workers }
+    requires plan { opened.master.board.plan ≡ plan_view plan.value }
+    requires flow { IsOverLines (K.gives (arc_value opened.shop).kit) }
+    requires held { onward.log.held ≤ most }
+    requires takes { Each (Takes K.gives N.digest (arc_value opened.shop)) onward.out.items }
+    requires sends { CanSend (nobody plan.value.workers) onward.out.items }
+    requires left { LeavesOpen opened.master.board.journal onward.out.items }
+    requires works { WorksOn K.gives N.digest (arc_value opened.shop) opened.master (sent_to (nobody plan.value.workers) onward.out.items) onward.end }
+    ensures end { Stood K.gives N.digest (arc_value opened.shop) opened.master (sent_to (nobody plan.value.workers) onward.out.items) onward.end onward.draws
+        → EndsSo (N.digest (arc_value opened.shop).namer) (job_view (arc_value opened.shop).job) (K.gives (arc_value opened.shop).kit)
+        (plan_view plan.value) (map entry_view result.0.ran.journal.items) result.0.ran.end }
+    ensures told { result.0.ran.end ≢ RunEnd.Memory → ToldSince opened.master.board.journal (map entry_view result.0.ran.journal.items)
+        (map G.entered gates.items) (map G.entered result.1.items) }
+    ensures keeps { result.0.ran.end ≢ RunEnd.Memory → Keeps onward.log.path onward.log.held
+        (record { files = D.files keep.old; asked = D.asked keep.old; faults = D.faults keep.old })
+        (record { files = D.files keep.new; asked = D.asked keep.new; faults = D.faults keep.new }) result.0.state }
+    ensures written { Stood K.gives N.digest (arc_value opened.shop) opened.master (sent_to (nobody plan.value.workers) onward.out.items) onward.end
+        onward.draws → IfOver result.0.ran.end (LogContinued (N.digest (arc_value opened.shop).namer) (job_view (arc_value opened.shop).job)
+        (K.gives (arc_value opened.shop).kit) (plan_view plan.value) onward.log.path onward.log.held (D.files keep.old) (D.files keep.new)
+        opened.master.board.journal (map entry_view result.0.ran.journal.items) result.0.state) }
+{
+    let Opened {
+        shop,
+        master,
+        mut eyes,
+    } = opened;
+    let eye = another_eye(&shop, &mut eyes);
+    let Ok(shared) = Arc::try_clone(&shop) else {
+        return (no_run(alloc), gates);
+    };
+    match Streams::open(rt, alloc, shop, gates, eyes) {
         Ok(crew) => run_over(alloc, master, crew, shared, eye, keep, onward),
         Err((gates, Memory)) => (no_run(alloc), gates),
     }

@@ -27,7 +27,7 @@ abbrev pub words : Rule
 words = with_index 1 (filled words_rule)
 
 rules_are : top.rules ≡ option (codes "workers") ∷ option (codes "seed") ∷ option (codes "lose") ∷ option (codes "names") ∷ option (codes "log")
-    ∷ option (codes "resume") ∷ option (codes "steal") ∷ option (codes "generate") ∷ flag (codes "trace") ∷ flag (codes "plain") ∷ words ∷ []
+    ∷ option (codes "resume") ∷ option (codes "steal") ∷ option (codes "generate") ∷ flag (codes "trace") ∷ flag (codes "plain") ∷ flag (codes "stream") ∷ words ∷ []
 rules_are = refl
 
 no_kind : (k : Kinds) → kind.InvalidValue ∷ k ≡ [] → ⊥
@@ -145,6 +145,13 @@ plain_is = record {
   twice = λ R h. rw h no_conflict;
 }
 
+stream_is : IsFlag top (flag (codes "stream"))
+stream_is = record {
+  takes = refl;
+  one = λ R h. rw h refl;
+  twice = λ R h. rw h no_conflict;
+}
+
 this_option : (m n : Text) → IsOption top (option m) → m ≡ n → (unvalued : Bool) → RuleOf n (Some (option m)) true unvalued
 this_option m n is e u = subst (λ (t : Text). RuleOf t (Some (option m)) true u) e (an_option refl is refl)
 
@@ -155,12 +162,14 @@ first : Bool → Rule → Option Rule → Option Rule
 first b r o = cond (b || false) (Some r) o
 
 -- by which of the names it equals
-flags_of : (n : Text) (f g : Bool) → (f ≡ true → codes "trace" ≡ n) → (g ≡ true → codes "plain" ≡ n)
-    → RuleOf n (first f (flag (codes "trace")) (first g (flag (codes "plain")) None)) false (f || (g || false))
+flags_of : (n : Text) (f g h : Bool) → (f ≡ true → codes "trace" ≡ n) → (g ≡ true → codes "plain" ≡ n) → (h ≡ true → codes "stream" ≡ n)
+    → RuleOf n (first f (flag (codes "trace")) (first g (flag (codes "plain")) (first h (flag (codes "stream")) None))) false
+    (f || (g || (h || false)))
 unfolding first
-flags_of n true g hf hg = this_flag (codes "trace") n trace_is (hf refl)
-flags_of n false true hf hg = this_flag (codes "plain") n plain_is (hg refl)
-flags_of n false false hf hg = none refl refl refl
+flags_of n true g h hf hg hh = this_flag (codes "trace") n trace_is (hf refl)
+flags_of n false true h hf hg hh = this_flag (codes "plain") n plain_is (hg refl)
+flags_of n false false true hf hg hh = this_flag (codes "stream") n stream_is (hh refl)
+flags_of n false false false hf hg hh = none refl refl refl
 
 picked : (n : Text) (a b c d e f g h u : Bool) (o : Option Rule) → (a ≡ true → codes "workers" ≡ n) → (b ≡ true → codes "seed" ≡ n)
     → (c ≡ true → codes "lose" ≡ n)
@@ -189,7 +198,7 @@ rule_of_name n =
     picked n (bytes_eq (codes "workers") n) (bytes_eq (codes "seed") n) (bytes_eq (codes "lose") n) (bytes_eq (codes "names") n)
     (bytes_eq (codes "log") n) (bytes_eq (codes "resume") n) (bytes_eq (codes "steal") n) (bytes_eq (codes "generate") n)
     (is_unvalued n) _ (is _ n) (is _ n) (is _ n) (is _ n) (is _ n) (is _ n) (is _ n) (is _ n)
-    (flags_of n (bytes_eq (codes "trace") n) (bytes_eq (codes "plain") n) (is _ n) (is _ n))
+    (flags_of n (bytes_eq (codes "trace") n) (bytes_eq (codes "plain") n) (bytes_eq (codes "stream") n) (is _ n) (is _ n) (is _ n))
 
 -- ---- the command is a line
 
@@ -235,6 +244,7 @@ defaults_none R =
     let by_generate = with_default by_steal (option (codes "generate")) in
     let by_trace = with_default by_generate (flag (codes "trace")) in
     let by_plain = with_default by_trace (flag (codes "plain")) in
+    let by_stream = with_default by_plain (flag (codes "stream")) in
     both_empty (default_fault R (option (codes "workers"))) _ (rw or_true refl)
     (both_empty (default_fault by_workers (option (codes "seed"))) _ (rw or_true refl)
     (both_empty (default_fault by_seed (option (codes "lose"))) _ (rw or_true refl)
@@ -245,7 +255,8 @@ defaults_none R =
     (both_empty (default_fault by_steal (option (codes "generate"))) _ (rw or_true refl)
     (both_empty (default_fault by_generate (flag (codes "trace"))) _ (flag_default (has_row (codes "trace") by_generate) (codes "trace"))
     (both_empty (default_fault by_trace (flag (codes "plain"))) _ (flag_default (has_row (codes "plain") by_trace) (codes "plain"))
-    (both_empty (default_fault by_plain words) [] (rw or_true refl) refl))))))))))
+    (both_empty (default_fault by_plain (flag (codes "stream"))) _ (flag_default (has_row (codes "stream") by_plain) (codes "stream"))
+    (both_empty (default_fault by_stream words) [] (rw or_true refl) refl)))))))))))
 
 level_is : (ws : List Text) → fault_of command ws ≡ level_fault top [] nothing_held ws false []
 level_is ws = leaf_fault (built command) nothing_held ws refl

@@ -11,3 +11,4 @@ mod Readings
 mod Strict
 mod Said
 mod SoundLaw
+mod SaidBy

@@ -21,27 +21,27 @@ abbrev pub with_flag : Text → List Row → List Row
 with_flag n R = with_default R (own.flag n)
 
 -- options have no defaults, and flags have one
-finished : (R : List Row) → fold with_default R top.rules ≡ with_flag (codes "plain") (with_flag (codes "trace") R)
+finished : (R : List Row) → fold with_default R top.rules ≡ with_flag (codes "stream") (with_flag (codes "plain") (with_flag (codes "trace") R))
 finished R =
     let none = λ (n : Text) (S : List Row). either_way {A = List Row} (has_row n S) S in
     ap (λ S. fold with_default S (own.option (codes "seed") ∷ own.option (codes "lose") ∷ own.option (codes "names")
     ∷ own.option (codes "log") ∷ own.option (codes "resume") ∷ own.option (codes "steal")
-    ∷ own.option (codes "generate") ∷ own.flag (codes "trace") ∷ own.flag (codes "plain") ∷ words ∷ [])) (none (codes "workers") R)
+    ∷ own.option (codes "generate") ∷ own.flag (codes "trace") ∷ own.flag (codes "plain") ∷ own.flag (codes "stream") ∷ words ∷ [])) (none (codes "workers") R)
     ∙ ap (λ S. fold with_default S (own.option (codes "lose") ∷ own.option (codes "names") ∷ own.option (codes "log")
     ∷ own.option (codes "resume") ∷ own.option (codes "steal") ∷ own.option (codes "generate")
-    ∷ own.flag (codes "trace") ∷ own.flag (codes "plain") ∷ words ∷ [])) (none (codes "seed") R)
+    ∷ own.flag (codes "trace") ∷ own.flag (codes "plain") ∷ own.flag (codes "stream") ∷ words ∷ [])) (none (codes "seed") R)
     ∙ ap (λ S. fold with_default S (own.option (codes "names") ∷ own.option (codes "log") ∷ own.option (codes "resume")
     ∷ own.option (codes "steal") ∷ own.option (codes "generate") ∷ own.flag (codes "trace")
-    ∷ own.flag (codes "plain") ∷ words ∷ [])) (none (codes "lose") R)
+    ∷ own.flag (codes "plain") ∷ own.flag (codes "stream") ∷ words ∷ [])) (none (codes "lose") R)
     ∙ ap (λ S. fold with_default S (own.option (codes "log") ∷ own.option (codes "resume") ∷ own.option (codes "steal")
-    ∷ own.option (codes "generate") ∷ own.flag (codes "trace") ∷ own.flag (codes "plain") ∷ words ∷ [])) (none (codes "names") R)
+    ∷ own.option (codes "generate") ∷ own.flag (codes "trace") ∷ own.flag (codes "plain") ∷ own.flag (codes "stream") ∷ words ∷ [])) (none (codes "names") R)
     ∙ ap (λ S. fold with_default S (own.option (codes "resume") ∷ own.option (codes "steal") ∷ own.option (codes "generate")
-    ∷ own.flag (codes "trace") ∷ own.flag (codes "plain") ∷ words ∷ [])) (none (codes "log") R)
+    ∷ own.flag (codes "trace") ∷ own.flag (codes "plain") ∷ own.flag (codes "stream") ∷ words ∷ [])) (none (codes "log") R)
     ∙ ap (λ S. fold with_default S (own.option (codes "steal") ∷ own.option (codes "generate") ∷ own.flag (codes "trace")
-    ∷ own.flag (codes "plain") ∷ words ∷ [])) (none (codes "resume") R)
-    ∙ ap (λ S. fold with_default S (own.option (codes "generate") ∷ own.flag (codes "trace") ∷ own.flag (codes "plain") ∷ words ∷ [])) (none (codes "steal") R)
-    ∙ ap (λ S. fold with_default S (own.flag (codes "trace") ∷ own.flag (codes "plain") ∷ words ∷ [])) (none (codes "generate") R)
-    ∙ none (codes "words") (with_flag (codes "plain") (with_flag (codes "trace") R))
+    ∷ own.flag (codes "plain") ∷ own.flag (codes "stream") ∷ words ∷ [])) (none (codes "resume") R)
+    ∙ ap (λ S. fold with_default S (own.option (codes "generate") ∷ own.flag (codes "trace") ∷ own.flag (codes "plain") ∷ own.flag (codes "stream") ∷ words ∷ [])) (none (codes "steal") R)
+    ∙ ap (λ S. fold with_default S (own.flag (codes "trace") ∷ own.flag (codes "plain") ∷ own.flag (codes "stream") ∷ words ∷ [])) (none (codes "generate") R)
+    ∙ none (codes "words") (with_flag (codes "stream") (with_flag (codes "plain") (with_flag (codes "trace") R)))
 
 held : {A : Type 0} (x y : Option A) → is_some x ≡ true → or_first x y ≡ x
 held None y e = absurd (let bad : false ≡ true = e in cc)
@@ -62,13 +62,16 @@ look_default n name R = ⊎_elim
 -- the row of a name, behind all parts and the defaults
 row_of_name : (name : Text) → bytes_eq (codes "words") name ≡ false → (ps : List Part) (S : List Row) → added [] ps ≡ Some S
     → look name (fold with_default S top.rules)
-    ≡ or_first (or_first (first_given name ps) (cond (bytes_eq (codes "trace") name) (Some (default_row (codes "trace"))) None))
-    (cond (bytes_eq (codes "plain") name) (Some (default_row (codes "plain"))) None)
+    ≡ or_first (or_first (or_first (first_given name ps) (cond (bytes_eq (codes "trace") name) (Some (default_row (codes "trace"))) None))
+    (cond (bytes_eq (codes "plain") name) (Some (default_row (codes "plain"))) None))
+    (cond (bytes_eq (codes "stream") name) (Some (default_row (codes "stream"))) None)
 row_of_name name e ps S a =
     let t = cond (bytes_eq (codes "trace") name) (Some (default_row (codes "trace"))) None in
     let p = cond (bytes_eq (codes "plain") name) (Some (default_row (codes "plain"))) None in
-    ap (look name) (finished S) ∙ look_default (codes "plain") name (with_flag (codes "trace") S)
-    ∙ ap (λ o. or_first o p) (look_default (codes "trace") name S ∙ ap (λ o. or_first o t) (looked name e [] ps S a))
+    let m = cond (bytes_eq (codes "stream") name) (Some (default_row (codes "stream"))) None in
+    ap (look name) (finished S) ∙ look_default (codes "stream") name (with_flag (codes "plain") (with_flag (codes "trace") S))
+    ∙ ap (λ o. or_first o m) (look_default (codes "plain") name (with_flag (codes "trace") S)
+    ∙ ap (λ o. or_first o p) (look_default (codes "trace") name S ∙ ap (λ o. or_first o t) (looked name e [] ps S a)))
 
 abbrev pub first_text : Option Row → Option Text
 first_text o = option_and_then (λ r. slice_get r.values 0) o
@@ -105,15 +108,19 @@ flag_given name t (word w ∷ ps) ok = flag_given name t ps ok
 -- ---- the three kinds of reading
 
 pub value_read : (name : Text) → bytes_eq (codes "words") name ≡ false → bytes_eq (codes "trace") name ≡ false → bytes_eq (codes "plain") name
-    ≡ false → is_valued name ≡ true
+    ≡ false → bytes_eq (codes "stream") name ≡ false → is_valued name ≡ true
     → (ps : List Part) (S : List Row) → AllOk ps → added [] ps ≡ Some S → first_of name (fold with_default S top.rules) ≡ value_of name ps
-value_read name w t p v ps S ok a =
+value_read name w t p m v ps S ok a =
     let row : look name (fold with_default S top.rules) ≡ first_given name ps =
     row_of_name name w ps S a
-    ∙ ap (λ b. or_first (or_first (first_given name ps) (cond b (Some (default_row (codes "trace"))) None))
-    (cond (bytes_eq (codes "plain") name) (Some (default_row (codes "plain"))) None)) t
-    ∙ ap (λ b. or_first (or_first (first_given name ps) None) (cond b (Some (default_row (codes "plain"))) None)) p
-    ∙ or_none (or_first (first_given name ps) None) ∙ or_none (first_given name ps) in
+    ∙ ap (λ b. or_first (or_first (or_first (first_given name ps) (cond b (Some (default_row (codes "trace"))) None))
+    (cond (bytes_eq (codes "plain") name) (Some (default_row (codes "plain"))) None))
+    (cond (bytes_eq (codes "stream") name) (Some (default_row (codes "stream"))) None)) t
+    ∙ ap (λ b. or_first (or_first (or_first (first_given name ps) None) (cond b (Some (default_row (codes "plain"))) None))
+    (cond (bytes_eq (codes "stream") name) (Some (default_row (codes "stream"))) None)) p
+    ∙ ap (λ b. or_first (or_first (or_first (first_given name ps) None) None) (cond b (Some (default_row (codes "stream"))) None)) m
+    ∙ or_none (or_first (or_first (first_given name ps) None) None) ∙ or_none (or_first (first_given name ps) None)
+    ∙ or_none (first_given name ps) in
     ap first_text row ∙ value_given name v ps ok
 
 says : (o : Option Text) (h b : Bool) → o ≡ Some (cond h (codes "true") (codes "false")) → FlagSays o b → b ≡ h
@@ -121,14 +128,20 @@ says o true b e f = f.0 e
 says o false b e f = f.1 e
 
 trace_text : (h : Bool) (o : Option Row) → o ≡ cond h (Some (flag_row (codes "trace"))) None
-    → option_and_then row_text (or_first (or_first o (Some (default_row (codes "trace")))) None) ≡ Some (cond h (codes "true") (codes "false"))
+    → option_and_then row_text (or_first (or_first (or_first o (Some (default_row (codes "trace")))) None) None) ≡ Some (cond h (codes "true") (codes "false"))
 trace_text true o e = rw e refl
 trace_text false o e = rw e refl
 
 plain_text : (h : Bool) (o : Option Row) → o ≡ cond h (Some (flag_row (codes "plain"))) None
-    → option_and_then row_text (or_first (or_first o None) (Some (default_row (codes "plain")))) ≡ Some (cond h (codes "true") (codes "false"))
+    → option_and_then row_text (or_first (or_first (or_first o None) (Some (default_row (codes "plain")))) None) ≡ Some (cond h (codes "true") (codes "false"))
 plain_text true o e = rw e refl
 plain_text false o e = rw e refl
+
+stream_text : (h : Bool) (o : Option Row) → o ≡ cond h (Some (flag_row (codes "stream"))) None
+    → option_and_then row_text (or_first (or_first (or_first o None) None) (Some (default_row (codes "stream"))))
+    ≡ Some (cond h (codes "true") (codes "false"))
+stream_text true o e = rw e refl
+stream_text false o e = rw e refl
 
 pub trace_read : (ps : List Part) (S : List Row) → AllOk ps → added [] ps ≡ Some S → (b : Bool)
     → FlagSays (one_of (codes "trace") (fold with_default S top.rules)) b
@@ -146,6 +159,14 @@ plain_read ps S ok a b f =
     (ap (λ o. option_and_then row_text o) (row_of_name (codes "plain") refl ps S a)
     ∙ plain_text (has_flag (codes "plain") ps) (first_given (codes "plain") ps) (flag_given (codes "plain") refl ps ok)) f
 
+pub stream_read : (ps : List Part) (S : List Row) → AllOk ps → added [] ps ≡ Some S → (b : Bool)
+    → FlagSays (one_of (codes "stream") (fold with_default S top.rules)) b
+    → b ≡ has_flag (codes "stream") ps
+stream_read ps S ok a b f =
+    says _ (has_flag (codes "stream") ps) b
+    (ap (λ o. option_and_then row_text o) (row_of_name (codes "stream") refl ps S a)
+    ∙ stream_text (has_flag (codes "stream") ps) (first_given (codes "stream") ps) (flag_given (codes "stream") refl ps ok)) f
+
 words_default : (n : Text) (R : List Row) → bytes_eq n (codes "words") ≡ false → all_words (with_flag n R) ≡ all_words R
 words_default n R e =
     ap (λ (o : Option Row). unwrap_or (option_map (λ r. r.values) o) [])
@@ -154,5 +175,6 @@ words_default n R e =
 
 pub words_read : (ps : List Part) (S : List Row) → AllOk ps → added [] ps ≡ Some S → all_words (fold with_default S top.rules) ≡ texts_of ps
 words_read ps S ok a =
-    ap all_words (finished S) ∙ words_default (codes "plain") (with_flag (codes "trace") S) refl ∙ words_default (codes "trace") S refl
+    ap all_words (finished S) ∙ words_default (codes "stream") (with_flag (codes "plain") (with_flag (codes "trace") S)) refl
+    ∙ words_default (codes "plain") (with_flag (codes "trace") S) refl ∙ words_default (codes "trace") S refl
     ∙ words_said [] ps S ok a

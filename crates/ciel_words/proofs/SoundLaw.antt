@@ -6,7 +6,7 @@ use Rattle.std.specs.List.{AllByRecursion, list_all}
 use Rattle.std.specs.Str.Parse.{digits_value}
 use Rattle.std.proofs.lemmas.Bool.Decides.{nat_tests}
 use Rattle.ciel_words.specs.Inputs.{all_apart, are_inputs, begins_key, goes_on_key, input_in, is_input, is_key, key_in, most_inputs, most_name, path_in}
-use Rattle.ciel_words.specs.Line.{files_in, line_said, line_with, lines_in, log_in, most_threads, most_workers, steal_in, with}
+use Rattle.ciel_words.specs.Line.{files_in, line_said, line_with, lines_in, log_in, most_threads, most_workers, steal_in, stream_in, with}
 use Rattle.ciel_words.specs.Parts.{Part, Text, has_flag, names_of, parts_of, texts_of, value_of}
 use Rattle.ciel_words.specs.Sound.{LineIsSound, LinesAreSound}
 use Rattle.ciel_words.specs.Values.{count_in, each_loss, is_number, loss_in, losses_in, most_losses, names_in, number_within, or_absent, pieces}
@@ -186,17 +186,27 @@ steal_sound false (Some t) s e n h = split (number_within 1 most_threads t) refl
         let is = within 1 most_threads t m b in
         (refl, omega (arith, is.0, same), omega (arith, is.1, same))
 
-said_sound : (workers seed lose names log resume steal generate : Option Text) (trace plain : Bool) (texts : List Text) (w : Words)
-    → line_said workers seed lose names log resume steal generate trace plain texts ≡ Some w
+neither_flag : (plain stream : Bool) → (plain || stream) ≡ false → (plain ≡ false) × (stream ≡ false)
+neither_flag true stream e = absurd (let bad : true ≡ false = e in cc)
+neither_flag false stream e = (refl, e)
+
+stream_sound : (plain stream m : Bool) → stream_in plain stream ≡ Some m → m ≡ true → plain ≡ false
+stream_sound false stream m e h = refl
+stream_sound true false m e h = absurd (let same : false ≡ m = some_is false m e in cc)
+stream_sound true true m e h = absurd (no_some m e)
+
+said_sound : (workers seed lose names log resume steal generate : Option Text) (trace plain stream : Bool) (texts : List Text) (w : Words)
+    → line_said workers seed lose names log resume steal generate trace plain stream texts ≡ Some w
     → LineIsSound w
-said_sound workers seed lose names log resume steal generate trace plain texts w e =
+said_sound workers seed lose names log resume steal generate trace plain stream texts w e =
     let one = given (or_absent 1 (number_within 1 most_workers) workers) _ w e in
     let two = given (or_absent 0 (number_within 0 (2 ^ 64 - 1)) seed) _ w one.2 in
     let three = given (or_absent [] (losses_in one.0) lose) _ w two.2 in
     let four = given (or_absent NameKind.Sha1 names_in names) _ w three.2 in
     let logs = given (or_absent None (log_in plain) log) _ w four.2 in
     let resumes = given (or_absent None (log_in (plain || is_some logs.0)) resume) _ w logs.2 in
-    let steals = given (or_absent None (steal_in plain) steal) _ w resumes.2 in
+    let streams = given (stream_in plain stream) _ w resumes.2 in
+    let steals = given (or_absent None (steal_in (plain || streams.0)) steal) _ w streams.2 in
     let five = given (or_absent None lines_in generate) _ w steals.2 in
     let six = given (files_in five.0 texts) _ w five.2 in
     let count = workers_within workers one.0 one.1 in
@@ -212,7 +222,11 @@ said_sound workers seed lose names log resume steal generate trace plain texts w
       named = files.2;
       logged = log_sound plain log logs.0 logs.1;
       resumed = resume_sound plain logs.0 resume resumes.0 resumes.1;
-      shared = steal_sound plain steal steals.0 steals.1;
+      streamed = stream_sound plain stream streams.0 streams.1;
+      shared = λ threads h.
+          let sound = steal_sound (plain || streams.0) steal steals.0 steals.1 threads h in
+          let none = neither_flag plain streams.0 sound.0 in
+          (none.0, none.1, sound.1, sound.2);
     })
 
 pub lines_are_sound : LinesAreSound
@@ -225,5 +239,5 @@ lines_are_sound words w e =
     split ps true h =
         said_sound (value_of (codes "workers") ps) (value_of (codes "seed") ps) (value_of (codes "lose") ps) (value_of (codes "names") ps)
         (value_of (codes "log") ps) (value_of (codes "resume") ps) (value_of (codes "steal") ps) (value_of (codes "generate") ps)
-        (has_flag (codes "trace") ps) (has_flag (codes "plain") ps) (texts_of ps) w h
+        (has_flag (codes "trace") ps) (has_flag (codes "plain") ps) (has_flag (codes "stream") ps) (texts_of ps) w h
     split ps false h = absurd (no_some w h)

@@ -1,6 +1,6 @@
 -- The line of the command:
--- SCRIPT [--workers N] [--seed N] [--lose K:W,K:W] [--trace] [--plain] [--names sha1|sha256] [--steal T] [--log PATH] [--resume PATH]
--- [NAME=PATH]..., or --generate N with these options.
+-- SCRIPT [--workers N] [--seed N] [--lose K:W,K:W] [--trace] [--plain] [--names sha1|sha256] [--stream] [--steal T] [--log PATH]
+-- [--resume PATH] [NAME=PATH]..., or --generate N with these options.
 use Rattle.std.specs.Prelude.{ℕ, ◌-◌, ◌^◌, ◌&&◌, ◌||◌, Bool, not, is_some, nat_lt, List, [], ◌∷◌, Option, Some, None, if◌then◌else◌, codes, length, map, option_map}
 use Rattle.ciel_words.specs.Inputs.{all_apart, are_inputs, input_in}
 use Rattle.ciel_words.specs.Parts.{Text, Part, parts_of, names_of, value_of, has_flag, texts_of}
@@ -27,9 +27,13 @@ log_in without t = if not without && nat_lt 0 (length t) then Some (Some t) else
 abbrev pub most_threads : ℕ
 most_threads = 64
 
--- the number of threads that all workers share, which a sequential run has none of
-abbrev pub steal_in : (plain : Bool) → Text → Option (Option ℕ)
-steal_in plain t = if plain then None else option_map (λ n. Some n) (number_within 1 most_threads t)
+-- the number of threads that all workers share; with `without` none may be asked for
+abbrev pub steal_in : (without : Bool) → Text → Option (Option ℕ)
+steal_in without t = if without then None else option_map (λ n. Some n) (number_within 1 most_threads t)
+
+-- whether tasks begin on what is still made, which those of a sequential run don't
+abbrev pub stream_in : (plain stream : Bool) → Option Bool
+stream_in plain stream = if plain && stream then None else Some stream
 
 -- the number of lines of a generated job, where the option stands there
 abbrev pub lines_in : Text → Option (Option ℕ)
@@ -42,17 +46,18 @@ files_in None (w ∷ ws) = if nat_lt 0 (length w) && are_inputs ws then Some (So
 files_in (Some lines) [] = Some (None, [])
 files_in (Some lines) (w ∷ ws) = None
 
--- what a line says that has these values, flags and positional words: a sequential run has no log and no threads to share, and a run that goes on
--- from a log begins none
-abbrev pub line_said : (workers seed lose names log resume steal generate : Option Text) → (trace plain : Bool) → List Text → Option Words
-line_said workers seed lose names log resume steal generate trace plain texts =
+-- what a line says that has these values, flags and positional words: a sequential run has no log, no streams and no threads to
+-- share, a run with streams shares none, and a run that goes on from a log begins none
+abbrev pub line_said : (workers seed lose names log resume steal generate : Option Text) → (trace plain stream : Bool) → List Text → Option Words
+line_said workers seed lose names log resume steal generate trace plain stream texts =
     with (or_absent 1 (number_within 1 most_workers) workers) (λ w.
     with (or_absent 0 (number_within 0 (2 ^ 64 - 1)) seed) (λ s.
     with (or_absent [] (losses_in w) lose) (λ l.
     with (or_absent NameKind.Sha1 names_in names) (λ k.
     with (or_absent None (log_in plain) log) (λ d.
     with (or_absent None (log_in (plain || is_some d)) resume) (λ r.
-    with (or_absent None (steal_in plain) steal) (λ t.
+    with (stream_in plain stream) (λ m.
+    with (or_absent None (steal_in (plain || m)) steal) (λ t.
     with (or_absent None lines_in generate) (λ g.
     with (files_in g texts) (λ f. Some (record {
       script = f.0;
@@ -65,15 +70,17 @@ line_said workers seed lose names log resume steal generate trace plain texts =
       names = k;
       log = d;
       resume = r;
+      stream = m;
       steal = t;
       generate = g;
-    }))))))))))
+    })))))))))))
 
 abbrev pub line_with : List Part → Option Words
 line_with ps =
     let value = λ (name : Text). value_of name ps in
     line_said (value (codes "workers")) (value (codes "seed")) (value (codes "lose")) (value (codes "names")) (value (codes "log"))
-    (value (codes "resume")) (value (codes "steal")) (value (codes "generate")) (has_flag (codes "trace") ps) (has_flag (codes "plain") ps) (texts_of ps)
+    (value (codes "resume")) (value (codes "steal")) (value (codes "generate")) (has_flag (codes "trace") ps) (has_flag (codes "plain") ps)
+    (has_flag (codes "stream") ps) (texts_of ps)
 
 -- what the words say, where they are a line: each option stands at most once
 abbrev pub line_of : List Text → Option Words

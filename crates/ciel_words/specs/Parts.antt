@@ -18,7 +18,7 @@ valued =
     codes "workers" ∷ codes "seed" ∷ codes "lose" ∷ codes "names" ∷ codes "log" ∷ codes "resume" ∷ codes "steal" ∷ codes "generate" ∷ []
 
 abbrev pub unvalued : List Text
-unvalued = codes "trace" ∷ codes "plain" ∷ []
+unvalued = codes "trace" ∷ codes "plain" ∷ codes "stream" ∷ []
 
 abbrev pub is_valued : Text → Bool
 is_valued name = list_any (λ n. bytes_eq n name) valued

@@ -1,5 +1,5 @@
 -- What holds of every line: its numbers are within their limits.
-use Rattle.std.specs.Prelude.{◌≡◌, ◌≢◌, ◌<◌, ◌≤◌, ℕ, List, None, Some, false, length}
+use Rattle.std.specs.Prelude.{◌≡◌, ◌≢◌, ◌<◌, ◌≤◌, ℕ, List, None, Some, false, length, true}
 use Rattle.std.specs.List.{AllByRecursion}
 use Rattle.ciel_words.specs.Inputs.{most_inputs, most_name}
 use Rattle.ciel_words.specs.Line.{line_of, most_threads, most_workers}
@@ -19,8 +19,10 @@ pub record LineIsSound (w : Words) : Type 0 where
   -- the path of a log isn't empty, and a sequential run has none, whether it is begun or gone on from; no line has both
   pub logged : (path : Text) → w.log ≡ Some path → (w.plain ≡ false) × (0 < length path)
   pub resumed : (path : Text) → w.resume ≡ Some path → (w.plain ≡ false) × (w.log ≡ None) × (0 < length path)
-  -- some threads are shared, and not too many; a sequential run shares none
-  pub shared : (threads : ℕ) → w.steal ≡ Some threads → (w.plain ≡ false) × (0 < threads) × (threads ≤ most_threads)
+  -- a sequential run has no streams
+  pub streamed : w.stream ≡ true → w.plain ≡ false
+  -- some threads are shared, and not too many; neither a sequential run nor one with streams shares any
+  pub shared : (threads : ℕ) → w.steal ≡ Some threads → (w.plain ≡ false) × (w.stream ≡ false) × (0 < threads) × (threads ≤ most_threads)
 
 abbrev pub LinesAreSound : Type 0
 LinesAreSound = (words : List Text) (w : Words) → line_of words ≡ Some w → LineIsSound w

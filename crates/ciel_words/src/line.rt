@@ -1,7 +1,7 @@
 //! What the values of a line say.
 
-ghost use Rattle.std.specs.Prelude.{◌≡◌, ◌<◌, [], Some, None, Err, IfOk, map};
-ghost use Rattle.ciel_words.specs.Line.{files_in, lines_in, log_in, steal_in};
+ghost use Rattle.std.specs.Prelude.{◌≡◌, ◌<◌, ◌||◌, [], Some, None, Err, IfOk, map};
+ghost use Rattle.ciel_words.specs.Line.{files_in, lines_in, log_in, steal_in, stream_in};
 ghost use Rattle.ciel_words.specs.Raw.{said_by, text_of};
 ghost use Rattle.ciel_words.specs.Values.{losses_in, names_in, or_absent};
 
@@ -64,13 +64,41 @@ fn log_path(alloc: Global, without: bool, value: Option<&str>) -> Result<Option<
     }
 }
 
-// The number of threads that all workers share, where some are asked for; a sequential run has none.
-fn shared(plain: bool, value: Option<&str>) -> Option<Option<u32>>
-    ensures { result ≡ or_absent None (steal_in plain) (text_of value.entry) }
+// The path of a log that a run goes on from, where one is asked for; `without` says that the run may have none, and `begun` that it begins one.
+fn resume_path(
+    alloc: Global,
+    without: bool,
+    begun: bool,
+    value: Option<&str>,
+) -> Result<Option<Txt>, WordsRefusal>
+    ensures path { IfOk result (λ p. or_absent None (log_in (without || begun)) (text_of value.entry) ≡ Some p) }
+    ensures usage { result ≡ Err WordsRefusal.Usage → or_absent None (log_in (without || begun)) (text_of value.entry) ≡ None }
+{
+    let path = log_path(alloc, without || begun, value)?;
+    Ok(path)
+}
+
+// Whether tasks begin on what is still made; those of a sequential run don't.
+fn streamed(plain: bool, stream: bool) -> Option<bool>
+    ensures { result ≡ stream_in plain stream }
+{
+    if plain && stream { None } else { Some(stream) }
+}
+
+// Whether a run shares no threads: a sequential one, and one with streams.
+fn is_alone(plain: bool, stream: bool) -> bool
+    ensures { result ≡ (plain || stream) }
+{
+    plain || stream
+}
+
+// The number of threads that all workers share, where some are asked for; with `without` none may be.
+fn shared(without: bool, value: Option<&str>) -> Option<Option<u32>>
+    ensures { result ≡ or_absent None (steal_in without) (text_of value.entry) }
 {
     match value {
         None => Some(None),
-        Some(_) if plain => None,
+        Some(_) if without => None,
         Some(text) => {
             let threads = number_within(1, MOST_THREADS, text)?;
             Some(Some(threads as u32))
@@ -148,8 +176,12 @@ pub(crate) fn line_from(alloc: Global, raw: &Raw<'_>) -> Result<Words, WordsRefu
         return Err(WordsRefusal::Usage);
     };
     let log = log_path(alloc, raw.plain, raw.log)?;
-    let resume = log_path(alloc, raw.plain || log.is_some(), raw.resume)?;
-    let Some(steal) = shared(raw.plain, raw.steal) else {
+    let resume = resume_path(alloc, raw.plain, log.is_some(), raw.resume)?;
+    let Some(stream) = streamed(raw.plain, raw.stream) else {
+        return Err(WordsRefusal::Usage);
+    };
+    let alone = is_alone(raw.plain, stream);
+    let Some(steal) = shared(alone, raw.steal) else {
         return Err(WordsRefusal::Usage);
     };
     let Some(generate) = generated(raw.generate) else {
@@ -167,6 +199,7 @@ pub(crate) fn line_from(alloc: Global, raw: &Raw<'_>) -> Result<Words, WordsRefu
         names,
         log,
         resume,
+        stream,
         steal,
         generate,
     })

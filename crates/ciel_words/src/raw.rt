@@ -30,6 +30,7 @@ pub(crate) struct Raw<'a> {
     pub generate: Option<&'a str>,
     pub trace: bool,
     pub plain: bool,
+    pub stream: bool,
     pub words: Vec<&'a str>,
 }
 
@@ -45,6 +46,7 @@ fn gather<'a>(alloc: Global, matches: &ArgMatches<'a>) -> Result<Raw<'a>, AllocE
     ensures generate { IfOk result (λ r. text_of r.generate ≡ first_of (codes "generate") (rows_of (found_of matches.now))) }
     ensures trace { IfOk result (λ r. FlagSays (one_of (codes "trace") (rows_of (found_of matches.now))) r.trace) }
     ensures plain { IfOk result (λ r. FlagSays (one_of (codes "plain") (rows_of (found_of matches.now))) r.plain) }
+    ensures stream { IfOk result (λ r. FlagSays (one_of (codes "stream") (rows_of (found_of matches.now))) r.stream) }
     ensures words { IfOk result (λ r. map (λ w. w.now) r.words.items ≡ unwrap_or (all_of (codes "words") (rows_of (found_of matches.now))) []) }
 {
     let words = match matches.get_strs("words") {
@@ -62,6 +64,7 @@ fn gather<'a>(alloc: Global, matches: &ArgMatches<'a>) -> Result<Raw<'a>, AllocE
         generate: matches.get_str("generate"),
         trace: matches.get_flag("trace"),
         plain: matches.get_flag("plain"),
+        stream: matches.get_flag("stream"),
         words,
     })
 }

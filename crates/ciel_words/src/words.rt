@@ -125,7 +125,9 @@ pub struct Words {
     pub log: Option<Txt>,
     /// The path of the log that the run goes on from, which isn't empty; none where the run begins, and with `plain`.
     pub resume: Option<Txt>,
-    /// How many threads all workers share, 1 to 64; none where each has its own, and with `plain`.
+    /// Whether tasks begin on what is still made; not with `plain`.
+    pub stream: bool,
+    /// How many threads all workers share, 1 to 64; none where each has its own, and with `plain` or `stream`.
     pub steal: Option<u32>,
     /// How many lines the generated job has, 1 to 1,000,000; none where a script is run.
     pub generate: Option<u32>,

@@ -90,6 +90,9 @@ fn put_log(out: &mut String, line: &Words) -> Result<(), Fail> {
 }
 
 fn put_threads(alloc: Global, out: &mut String, line: &Words) -> Result<(), Fail> {
+    if line.stream {
+        out.push_str(" stream")?;
+    }
     if let Some(threads) = line.steal {
         out.push_str(" steal ")?;
         put_number(alloc, out, u64::from(threads))?;

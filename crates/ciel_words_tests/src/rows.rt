@@ -5,7 +5,7 @@ use std::alloc::Global;
 use std::test::Fail;
 
 // Words, and what they say: a bar stands between two words.
-static LINES: [(&str, &str); 36] = [
+static LINES: [(&str, &str); 41] = [
     ("s", "s w1 s0 sha1"),
     ("--workers=2|s|--|a=x", "s a=x w2 s0 sha1"),
     ("--|--seed", "--seed w1 s0 sha1"),
@@ -53,6 +53,14 @@ static LINES: [(&str, &str); 36] = [
         "w1 s0 sha1 log l steal 64 4 lines",
     ),
     ("s|--resume=l|--steal=1", "s w1 s0 sha1 resume l steal 1"),
+    (
+        "s|--stream|--workers=2|--log=l",
+        "s w2 s0 sha1 log l stream",
+    ),
+    ("--generate=4|--stream", "w1 s0 sha1 stream 4 lines"),
+    ("s|--stream|--plain", "no line"),
+    ("s|--stream|--steal=2", "no line"),
+    ("s|--stream|--stream", "no line"),
     ("s|--steal=0", "no line"),
     ("s|--steal=65", "no line"),
     ("s|--steal=2|--plain", "no line"),

@@ -1,5 +1,5 @@
 -- What was written has no other cause, and what wasn't has that of its job.
-use Rattle.std.proofs.Common.{◌≡◌, ◌≢◌, ◌≤◌, ◌⊎◌, ◌∙◌, inr, ℕ, List, [], Some, map, subst, sym}
+use Rattle.std.proofs.Common.{◌≡◌, ◌≢◌, ◌≤◌, ◌⊎◌, ◌∙◌, inr, ℕ, List, [], Some, length, map, subst, sym}
 use Rattle.std.specs.Prelude.{IfErr, IfOk, Result}
 use Rattle.sky_base.specs.See as s
 use Rattle.sky_base.specs.See.{Answered}
@@ -304,6 +304,11 @@ returns-in-Err-clause-told g c =
     subst (λ (r : Ended). r.why ≢ Why.Memory → GatesTell (g.F.Files.content c.args.files.now) (Some c.args.line.now) (map entry_view r.journal.items) (told_of g.G.Gate.entered workers c.args.gates.now.items)
     (told_of g.G.Gate.entered workers c.answer_line-result.new.gates.items)) (sym c.ended-in-Err.ensures)
     (λ n. c.answer_line-result.ensures.told (λ e. n (err_is c.in-Err.why Why.Memory c.answer_line-result.result.result c.in-Err.is e)))
+
+pub returns-in-Err-clause-all : goal.returns-in-Err-clause-all
+returns-in-Err-clause-all g c =
+    subst (λ (r : Ended). r.why ≢ Why.Memory → length c.answer_line-result.new.gates.items ≡ 64) (sym c.ended-in-Err.ensures)
+    (λ n. c.answer_line-result.ensures.all (λ e. n (err_is c.in-Err.why Why.Memory c.answer_line-result.result.result c.in-Err.is e)))
 
 -- where it is known that the log is another job's
 

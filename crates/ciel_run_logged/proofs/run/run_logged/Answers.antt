@@ -4,7 +4,12 @@ use Rattle.sky_base.specs.JobView.{job_view}
 use Rattle.ciel_run_job.specs.Onward.{IsRead}
 use Rattle.ciel_log_law.specs.Views.{entry_view}
 use Rattle.ciel_run_job.proofs.Lent.{all_back, others_back, still, told_back}
+use Rattle.ciel_run_job.specs.Kinds.{IsFor}
 use Rattle.ciel_run_logged.proofs.run.run_logged.Goals as goal
+
+pub on_crew-logged-requires-clause-hands : goal.on_crew-logged-requires-clause-hands
+on_crew-logged-requires-clause-hands g c κs within =
+    subst (λ k. IsFor (g.K.Kit.gives k) c.args.hands) (sym c.in-Ok.ensures.shop.kit_is) c.requires.hands
 
 pub on_crew-logged-requires-clause-read : goal.on_crew-logged-requires-clause-read
 on_crew-logged-requires-clause-read g c κs within = subst (λ j. IsRead (job_view j).script) (sym c.in-Ok.ensures.shop.job_is) c.requires.read

@@ -31,6 +31,7 @@ use Rattle.ciel_run_resumed.proofs.Written.{file_tells}
 use Rattle.ciel_task_crew.specs.Crews.{Takes}
 use Rattle.ciel_task_order.specs.Shop.{InputsInOrder}
 use Rattle.ciel_task_order.specs.declared.shop.Shop.{Shop}
+use Rattle.ciel_run_job.specs.Kinds.{IsFor}
 use Rattle.ciel_run_resumed.proofs.run.run_resumed.Goals as goal
 
 pub go_back-requires-clause-working : goal.go_back-requires-clause-working
@@ -46,6 +47,10 @@ pub go_back-requires-clause-first : goal.go_back-requires-clause-first
 go_back-requires-clause-first g c =
     nothing_yet g.K.Kit.gives g.N.Namer.digest (arc_value c.in-Ok.opened.shop) c.args.plan c.in-Ok.opened.master c.in-Ok.opened.eyes.items
     c.in-Ok.ensures.opened
+
+pub on_crew-logged-requires-clause-hands : goal.on_crew-logged-requires-clause-hands
+on_crew-logged-requires-clause-hands g c κs within =
+    subst (λ k. IsFor (g.K.Kit.gives k) c.args.hands) (sym c.in-Ok.ensures.shop.kit_is) c.requires.hands
 
 pub on_crew-logged-requires-clause-read : goal.on_crew-logged-requires-clause-read
 on_crew-logged-requires-clause-read g c κs within = subst (λ j. IsRead (job_view j).script) (sym c.in-Ok.ensures.shop.job_is) c.requires.read

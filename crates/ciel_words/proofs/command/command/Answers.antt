@@ -21,4 +21,5 @@ returns c =
     let eight = c.in_ok-arg-8.ensures.shape c.option-8.ensures.local ∙ ap₂ with_rule seven c.option-8.ensures.rule in
     let nine = c.in_ok-arg-9.ensures.shape c.flag.ensures.local ∙ ap₂ with_rule eight c.flag.ensures.rule in
     let ten = c.in_ok-arg-10.ensures.shape c.flag-2.ensures.local ∙ ap₂ with_rule nine c.flag-2.ensures.rule in
-    IfOk-weaker c.arg-11.result _ _ (λ r h. h.shape c.words.ensures.local ∙ ap₂ with_rule ten c.words.ensures.rule) c.arg-11.ensures
+    let eleven = c.in_ok-arg-11.ensures.shape c.flag-3.ensures.local ∙ ap₂ with_rule ten c.flag-3.ensures.rule in
+    IfOk-weaker c.arg-12.result _ _ (λ r h. h.shape c.words.ensures.local ∙ ap₂ with_rule eleven c.words.ensures.rule) c.arg-12.ensures

@@ -38,6 +38,11 @@ returns-clause-plain c =
     let is = one_text-rows (found_of c.args.matches.now) (codes "plain") in
     (λ e. c.get_flag-2.ensures.value (is ∙ e), λ e. c.get_flag-2.ensures.other (is ∙ e))
 
+pub returns-clause-stream : goal.returns-clause-stream
+returns-clause-stream c =
+    let is = one_text-rows (found_of c.args.matches.now) (codes "stream") in
+    (λ e. c.get_flag-3.ensures.value (is ∙ e), λ e. c.get_flag-3.ensures.other (is ∙ e))
+
 pub returns-clause-words : goal.returns-clause-words
 returns-clause-words c =
     let named = raw_values-rows (found_of c.args.matches.now) (codes "words") in
