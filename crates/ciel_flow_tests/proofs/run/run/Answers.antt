@@ -4,5 +4,6 @@ use Rattle.sky_base.specs.JobView.{job_view}
 use Rattle.ciel_run_job.specs.Onward.{IsRead}
 use Rattle.ciel_flow_tests.proofs.run.run.Goals as goal
 
-pub counted-came-requires-clause-read : goal.counted-came-requires-clause-read
-counted-came-requires-clause-read g c = subst (λ j. IsRead (job_view j).script) (sym c.in_ok-begun.ensures.shop.job_is) c.in_ok-job.ensures.read
+pub counted-requires-clause-read : goal.counted-requires-clause-read
+counted-requires-clause-read g c κs within =
+    subst (λ j. IsRead (job_view j).script) (sym c.in_ok-begun.ensures.shop.job_is) c.in_ok-job.ensures.read
