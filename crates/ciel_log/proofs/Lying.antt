@@ -1,14 +1,17 @@
 -- What lies at the places of a report that a worker of a shop gives.
-use Rattle.std.proofs.Common.{◌≡◌, ◌<◌, ◌++◌, ℕ, zero, suc, List, [], ◌∷◌, Result, Ok, Err, MatchResult, Vec, ap₂, arith, get_or, length, map}
+use Rattle.std.proofs.Common.{◌≡◌, ◌<◌, ◌^◌, ◌++◌, ℕ, zero, suc, List, [], ◌∷◌, Result, Ok, Err, MatchResult, Vec, ap₂, arith, get_or, length, map}
 use Rattle.std.proofs.Common.{◌∙◌, Global, ap, refl, subst, sym}
 use Rattle.std.proofs.lemmas.Result.{MatchResult-at_err, MatchResult-at_ok}
 use Rattle.sky_base.specs.ObjectView.{desc_view}
 use Rattle.sky_base.specs.Tree.{Script}
+use Rattle.sky_base.specs.Val.{known}
 use Rattle.sky_base.specs.declared.object.Named.{Named}
 use Rattle.sky_base.specs.declared.object.TaskId.{TaskId}
 use Rattle.sky_base_law.specs.Tasks.{Each}
 use Rattle.sky_frozen_bytes.specs.Bytes.{frozen_bytes}
 use Rattle.sky_state.specs.Stand.{Stand}
+use Rattle.ciel_name.specs.Spelled.{IsName}
+use Rattle.ciel_name_law.specs.Told.{DescTold, ObjectTold}
 use Rattle.ciel_store.specs.Seen.{PlaceSeen, SeatSeen, ShelvesSeen}
 use Rattle.ciel_store.specs.declared.shelves.Gone.{Gone}
 use Rattle.ciel_task_order.specs.Orders.{HasObject, HasStack}
@@ -63,20 +66,20 @@ module _ (shelves : ShelvesSeen) (worker : ℕ) (sc : Script) where
 
   abbrev OutputsSo : List Made → (before after : List ℕ) → (eye seen : SeatSeen) → Result Unit Gone → Type 0
   OutputsSo ms before after eye seen r =
-      MatchResult r (λ _. (after ≡ before ++ end_bytes (HowEnded.made (map object_of ms))) × (seen ≡ eye))
+      MatchResult r (λ _. Each ObjectTold (map object_of ms) × (after ≡ before ++ end_bytes (HowEnded.made (map object_of ms))) × (seen ≡ eye))
       (λ gone. (0 < length ms) × ((w : ℕ) → AllAt w ms → Sees w eye seen gone.loss))
 
   abbrev StackSo : PlaceSeen Block → ℕ → (before after : List ℕ) → (eye seen : SeatSeen) → Result Unit Gone → Type 0
   StackSo p j before after eye seen r =
       MatchResult r (λ _. ((s : Stand (List ℕ)) × (block_view p.at.value ≡ shop.Block.stack s)
-      × (after ≡ before ++ end_bytes (HowEnded.saved j (frozen_bytes s)))) × (seen ≡ eye)) (λ gone. Sees p.worker eye seen gone.loss)
+      × (after ≡ before ++ end_bytes (HowEnded.saved j (frozen_bytes s)))) × (j < 2 ^ 32) × (seen ≡ eye)) (λ gone. Sees p.worker eye seen gone.loss)
 
   module _ (task : TaskId) (before after : List ℕ) (eye seen : SeatSeen) where
     made_put : (ms : Vec Made Global) → EndAt shelves worker sc task (End.Made ms) → (r : Result Unit Gone)
         → OutputsSo ms.items before after eye seen r → PutSo (End.Made ms) before after eye seen r
     made_put ms at (Ok x) put = (
-      (HowEnded.made (map object_of ms.items), (map object_of ms.items, objects_lie shelves ms.items (outputs_there ms.items at), refl), put.0),
-      put.1,
+      (HowEnded.made (map object_of ms.items), (map object_of ms.items, objects_lie shelves ms.items (outputs_there ms.items at), refl), put.0, put.1),
+      put.2,
     )
     made_put ms at (Err gone) put = (put.0, put.1 worker (outputs_at ms.items at))
 
@@ -90,7 +93,7 @@ module _ (shelves : ShelvesSeen) (worker : ℕ) (sc : Script) where
         → EndAt shelves worker sc task (End.Saved p j refs holds mark) → (r : Result Unit Gone)
         → StackSo p j before after eye seen r → PutSo (End.Saved p j refs holds mark) before after eye seen r
     stack_put p j refs holds mark at (Ok x) put =
-        ((HowEnded.saved j (frozen_bytes put.0.0), (put.0.0, put.0.1, refl), put.0.2), put.1)
+        ((HowEnded.saved j (frozen_bytes put.0.0), (put.0.0, put.0.1, refl), put.1, put.0.2), put.2)
     stack_put p j refs holds mark at (Err gone) put = (tt, (put.0 ∙ at.worker, put.1))
 
     pub stack_end : (end : End) (p : PlaceSeen Block) (j : ℕ) (refs holds : List (List ℕ)) (mark : List ℕ) → end ≡ End.Saved p j refs holds mark
@@ -109,12 +112,13 @@ module _ (shelves : ShelvesSeen) (worker : ℕ) (sc : Script) where
     abbrev Lost : Gone → Type 0
     Lost gone = GivesPlace r.end × Sees worker eye seen gone.loss
 
-    pub told_whole : (u : Unit) → put ≡ Ok u
+    pub told_whole : (u : Unit) → put ≡ Ok u → r.number < 2 ^ 64 → Each (λ (n : Named). DescTold (desc_view n.desc)) r.spawned.items
+        → Each (λ n. IsName (known n)) (told_copies r)
         → opening ≡ report_opening r.number (map (λ (n : Named). desc_view n.desc) r.spawned.items) (told_copies r)
         → IsRecordOf r eye.losses seen.losses after
-    told_whole u is opened =
+    told_whole u is number spawned copied opened =
         let it = MatchResult-at_ok (λ _. Put) Lost u is so in
-        whole it.0.0 it.0.1 (it.0.2 ∙ ap (λ o. o ++ end_bytes it.0.0) opened) (ap (λ (e : SeatSeen). e.losses) it.1)
+        whole it.0.0 it.0.1 (record { number = number; spawned = spawned; copied = copied; end = it.0.2 }) (it.0.3 ∙ ap (λ o. o ++ end_bytes it.0.0) opened) (ap (λ (e : SeatSeen). e.losses) it.1)
 
     pub told_dropped : (gone : Gone) → put ≡ Err gone → worker ≡ r.worker → (bytes : List ℕ) → bytes ≡ dropped_record r.number
         → IsRecordOf r eye.losses seen.losses bytes

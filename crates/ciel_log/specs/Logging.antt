@@ -1,12 +1,17 @@
 -- What a crew that keeps a log tells, and what each of its calls makes of that.
-use Rattle.std.specs.Prelude.{◌≡◌, ◌≤◌, ◌<◌, ◌+◌, ◌++◌, ℕ, List, [], ◌∷◌, Option, length, map}
+use Rattle.std.specs.Prelude.{◌≡◌, ◌≤◌, ◌<◌, ◌^◌, ◌+◌, ◌++◌, ℕ, List, [], ◌∷◌, Option, length, map}
 use Rattle.atomic_table.specs.Seated.{TableId}
 use Rattle.sky_base.specs.ObjectView.{desc_view}
 use Rattle.sky_base.specs.Res.{Object}
+use Rattle.sky_base.specs.Val.{known}
 use Rattle.sky_base.specs.declared.object.Named.{Named}
+use Rattle.sky_base_law.specs.Tasks.{Each}
 use Rattle.sky_frozen_bytes.specs.Bytes.{frozen_bytes}
+use Rattle.sky_frozen_bytes.specs.Codes.{Fits32}
 use Rattle.sky_state.specs.Stand.{Stand}
 use Rattle.sky_state.specs.declared.shown.Shown.{Shown}
+use Rattle.ciel_name.specs.Spelled.{IsName}
+use Rattle.ciel_name_law.specs.Told.{DescTold, FaultTold, ObjectTold}
 use Rattle.ciel_io.specs.Faults.{HasRisen}
 use Rattle.ciel_io.specs.Kept.{Appended, AppendedPart, Changes, Files}
 use Rattle.ciel_io.specs.Tells.{Tells}
@@ -77,6 +82,14 @@ EndedSo (End.Saved p j refs holds mark) how =
 EndedSo (End.Shown shown) how = how ≡ shown_end shown
 EndedSo (End.Missing name loss seen) how = how ≡ HowEnded.missing name loss.number
 
+-- what the types of the code tell of an end
+abbrev pub EndTyped : HowEnded → Type 0
+EndTyped (HowEnded.made objects) = Each ObjectTold objects
+EndTyped (HowEnded.saved j stack) = Fits32 j
+EndTyped (HowEnded.answered text) = Unit {0}
+EndTyped (HowEnded.failed fault) = FaultTold fault
+EndTyped (HowEnded.missing name loss) = IsName (known name) × Fits32 loss
+
 -- what was copied is told of a task that came to its end alone
 abbrev pub told_copies : Report → List (List ℕ)
 told_copies r = copies r.end
@@ -86,6 +99,13 @@ told_copies r = copies r.end
     copies (End.Shown shown) = names_in r.copied.items
     copies _ = []
 
+-- what the types of the code tell of what a report's record has
+pub record RecordTyped (r : Report) (how : HowEnded) : Type 0 where
+  pub number : r.number < 2 ^ 64
+  pub spawned : Each (λ (n : Named). DescTold (desc_view n.desc)) r.spawned.items
+  pub copied : Each (λ n. IsName (known n)) (told_copies r)
+  pub end : EndTyped how
+
 -- the end gives a place, which is at the report's worker
 abbrev pub GivesPlace : End → Type 0
 GivesPlace (End.Made ms) = 0 < length ms.items
@@ -94,7 +114,7 @@ GivesPlace _ = ⊥
 
 -- it tells the report whole; or its worker is lost, which the eye has seen just then
 pub data IsRecordOf (r : Report) (before after : List Loss) (bytes : List ℕ) : Type 0 where
-  whole : (how : HowEnded) → EndedSo r.end how
+  whole : (how : HowEnded) → EndedSo r.end how → RecordTyped r how
       → bytes ≡ report_record r.number (map (λ (n : Named). desc_view n.desc) r.spawned.items) (told_copies r) how
       → after ≡ before → IsRecordOf r before after bytes
   dropped : (loss : Loss) → GivesPlace r.end → loss.worker ≡ r.worker

@@ -20,6 +20,8 @@ use Rattle.ciel_task_order.specs.Named.{by_names, object_by_names, shop_job, sta
 use Rattle.ciel_want.specs.History.{task_id}
 use Rattle.ciel_log.specs.Logging.{most}
 use Rattle.ciel_log.specs.declared.state.LogState.{LogState}
+use Rattle.ciel_log_read.specs.Recorded as read
+use Rattle.ciel_log_read.specs.Recorded.{CanBeRead, FitsBlock}
 use Rattle.ciel_log_records.specs.Records.{HowEnded, dropped_record, in_file, report_record, start_record}
 
 -- a dropped record stands there, behind other records
@@ -76,10 +78,10 @@ module _ (digest : List ℕ → List ℕ) (job : s.Job) (gives : Gives) where
     abbrev pub IsFree : ℕ → Type 0
     IsFree k = (k < 2 ^ 64) × (find_open J k (standing J past).orders ≡ None) × ((standing J past).over ≡ false)
 
-    -- a report, or a dropped one, of no open Start, before the run's end
+    -- a report that can be read where it isn't too long, or a dropped one, of no open Start, before the run's end
     pub data Idle : List ℕ → Type 0 where
       reported : (k : ℕ) → IsFree k → (spawned : List (Desc (List ℕ))) (copied : List (List ℕ)) (how : HowEnded)
-          → Idle (report_record k spawned copied how)
+          → CanBeRead (read.reported k spawned copied how) → Idle (report_record k spawned copied how)
       dropped : (k : ℕ) → IsFree k → Idle (dropped_record k)
 
   -- the records of these events behind a history, in order, with idle ones between them; a loss has none
@@ -91,6 +93,13 @@ module _ (digest : List ℕ → List ℕ) (job : s.Job) (gives : Gives) where
         → Records past (lost w closes ∷ es) rest
     tells : {past es : List (Event s.Desc)} {rest : List ℕ} (e : Event s.Desc) (bytes : List ℕ) → RecordOf past e bytes
         → Records (past ++ e ∷ []) es rest → Records past (e ∷ es) (in_file bytes ++ rest)
+
+  -- each record has a length of four bytes
+  abbrev pub AllFit : {past es : List (Event s.Desc)} {bytes : List ℕ} → Records past es bytes → Type 0
+  AllFit over = Unit {0}
+  AllFit (idle bytes i more) = FitsBlock bytes × AllFit more
+  AllFit (loses w closes more) = AllFit more
+  AllFit (tells e bytes r more) = FitsBlock bytes × AllFit more
 
   -- it is a log of the journal, with this header
   pub record Logs (p : Plan) (header : List ℕ) (journal : List Entry) (bytes : List ℕ) : Type 0 where

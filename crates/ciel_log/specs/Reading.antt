@@ -9,7 +9,7 @@ use Rattle.ciel_task_order.specs.declared.block.Block.{Block}
 use Rattle.ciel_task_order.specs.declared.report.End.{End}
 use Rattle.ciel_task_order.specs.declared.report.Made.{Made}
 use Rattle.ciel_log_records.specs.Records.{HowEnded, end_bytes}
-use Rattle.ciel_log.specs.Logging.{EndedSo}
+use Rattle.ciel_log.specs.Logging.{EndTyped, EndedSo}
 
 -- an object lies there, or a stack
 abbrev pub IsObject : Block → Type 0
@@ -42,4 +42,4 @@ Sees worker before after loss = (loss.worker ≡ worker) × (after.losses ≡ be
 
 -- an end was put behind what was written, with what lies at its places
 abbrev pub PutEnd : End → List ℕ → List ℕ → Type 0
-PutEnd end before after = (how : HowEnded) × EndedSo end how × (after ≡ before ++ end_bytes how)
+PutEnd end before after = (how : HowEnded) × EndedSo end how × EndTyped how × (after ≡ before ++ end_bytes how)

@@ -1,6 +1,6 @@
 //! The record of a report, whose blocks an eye reads where they lie.
 
-ghost use Rattle.std.specs.Prelude.{◌≡◌, ◌<◌, ◌++◌, ℕ, IfOk, MatchResult, length, map};
+ghost use Rattle.std.specs.Prelude.{◌≡◌, ◌<◌, ◌^◌, ◌++◌, ℕ, IfOk, MatchResult, length, map};
 ghost use Rattle.sky_base.specs.Tree.{Script};
 ghost use Rattle.sky_base_law.specs.Tasks.{Each};
 ghost use Rattle.sky_frozen_bytes.specs.Bytes.{frozen_bytes};
@@ -10,13 +10,18 @@ ghost use Rattle.ciel_store.specs.Seen.{IsPlaceOf};
 ghost use Rattle.ciel_task_order.specs.Places.{EndAt};
 ghost use Rattle.ciel_task_order.specs.Shop.{block_view, Block as block_seen};
 ghost use Rattle.ciel_log_records.specs.Records.{HowEnded as how, block, dropped_record, end_bytes};
-ghost use Rattle.ciel_log.specs.Logging.{GivesPlace, IsRecordOf, shown_end, told_copies};
+ghost use Rattle.ciel_name.specs.Spelled.{IsName};
+ghost use Rattle.ciel_name_law.specs.Told.{ObjectTold};
+ghost use Rattle.sky_base.specs.Val.{known};
+ghost use Rattle.ciel_task_order.specs.declared.block.Held.{Held as HeldSeen};
+ghost use Rattle.ciel_log.specs.Logging.{EndTyped, GivesPlace, IsRecordOf, shown_end, told_copies};
 ghost use Rattle.ciel_log.specs.Reading.{AllAt, IsStack, OutputThere, PutEnd, Sees, object_of};
 
 use ciel_log_records::end::{put_answer, put_fault, put_missing, put_object, put_saved};
 use ciel_log_records::report::put_opening;
 use ciel_log_records::start::put_dropped;
 use ciel_name::writer::Writer;
+use ciel_name_law::read::{read_all, read_fault, read_name, read_object};
 use ciel_store::seats::Eye;
 use ciel_store::shelves::{Gone, Place, Shelves};
 use ciel_task_order::block::{Block, Held};
@@ -40,13 +45,11 @@ pub(crate) fn record_of(
     ensures record { IfOk result (IsRecordOf report.now eye.old.losses eye.new.losses) }
 {
     let mut out = Writer::new(alloc);
-    put_opening(
-        alloc,
-        &mut out,
-        report.number,
-        report.spawned.as_slice(),
-        copies_told(report),
-    )?;
+    let number = report.number;
+    read_all(report.spawned.as_slice());
+    let copies = copies_told(report);
+    read_names(copies);
+    put_opening(alloc, &mut out, number, report.spawned.as_slice(), copies)?;
     match put_end(alloc, &mut out, shelves, eye, report)? {
         Ok(()) => Ok(out),
         Err(_) => {
@@ -63,6 +66,15 @@ fn copies_told(report: &Report) -> &[Held]
     match &report.end {
         End::Made(_) | End::Shown(_) => report.copied.as_slice(),
         _ => &[],
+    }
+}
+
+// Reads the names of what was copied.
+fn read_names(copies: &[Held])
+    ensures told { Each (λ (h : HeldSeen). IsName (known h.name)) copies.now }
+{
+    for held in copies {
+        read_name(&held.name);
     }
 }
 
@@ -103,7 +115,9 @@ fn put_end(
             Ok(Ok(()))
         }
         End::Missing { name, loss, .. } => {
-            put_missing(out, name, loss.number)?;
+            let number = loss.number;
+            read_name(name);
+            put_missing(out, name, number)?;
             Ok(Ok(()))
         }
     }
@@ -122,7 +136,8 @@ fn put_outputs(
     requires places { Each (OutputThere shelves.now) outputs.now }
     ensures of { eye.new.of ≡ eye.old.of }
     ensures put { IfOk result (λ r. MatchResult r
-        (λ _. (out.new ≡ out.old ++ end_bytes (how.made (map object_of outputs.now))) × (eye.new ≡ eye.old))
+        (λ _. Each ObjectTold (map object_of outputs.now) × (out.new ≡ out.old ++ end_bytes (how.made (map object_of outputs.now)))
+        × (eye.new ≡ eye.old))
         (λ gone. (0 < length outputs.now) × ((worker : ℕ) → AllAt worker outputs.now → Sees worker eye.old eye.new gone.loss))) }
 {
     out.byte(1)?;
@@ -148,11 +163,12 @@ fn put_output(
     requires place { OutputThere shelves.now output.now }
     ensures of { eye.new.of ≡ eye.old.of }
     ensures put { IfOk result (λ r. MatchResult r
-        (λ _. (out.new ≡ out.old ++ block (object_bytes (object_of output.now))) × (eye.new ≡ eye.old))
+        (λ _. ObjectTold (object_of output.now) × (out.new ≡ out.old ++ block (object_bytes (object_of output.now))) × (eye.new ≡ eye.old))
         (λ gone. Sees output.now.place.worker eye.old eye.new gone.loss)) }
 {
     match shelves.fetch(&output.place, eye) {
         Ok(Block::Object(object)) => {
+            read_object(object);
             put_object(alloc, out, object)?;
             Ok(Ok(()))
         }
@@ -175,7 +191,7 @@ fn put_stack(
     ensures of { eye.new.of ≡ eye.old.of }
     ensures put { IfOk result (λ r. MatchResult r
         (λ _. ((s : Stand _) × (block_view place.now.at.value ≡ block_seen.stack s)
-        × (out.new ≡ out.old ++ end_bytes (how.saved j (frozen_bytes s)))) × (eye.new ≡ eye.old))
+        × (out.new ≡ out.old ++ end_bytes (how.saved j (frozen_bytes s)))) × (j < 2 ^ 32) × (eye.new ≡ eye.old))
         (λ gone. Sees place.now.worker eye.old eye.new gone.loss)) }
 {
     match shelves.fetch(place, eye) {
@@ -190,10 +206,14 @@ fn put_stack(
 
 // Writes the end of the root task.
 fn put_shown(out: &mut Writer, shown: &Shown) -> Result<(), Memory>
-    ensures { IfOk result (λ _. out.new ≡ out.old ++ end_bytes (shown_end shown.now)) }
+    ensures put { IfOk result (λ _. out.new ≡ out.old ++ end_bytes (shown_end shown.now)) }
+    ensures told { EndTyped (shown_end shown.now) }
 {
     match shown {
         Shown::Text(bytes) => put_answer(out, bytes.as_slice()),
-        Shown::Fault(fault) => put_fault(out, fault),
+        Shown::Fault(fault) => {
+            read_fault(fault);
+            put_fault(out, fault)
+        }
     }
 }

@@ -34,13 +34,13 @@ module _ (digest : List ℕ → List ℕ) (job : s.Job) (gives : Gives) where
         subst (λ (v : Standing s.Desc). v.over ≡ false) (sym (after_append J (before_all J) past (lost w closes))) h
 
     idle_on : (bytes : List ℕ) → Idle digest job gives past bytes → Idle digest job gives (past ++ lost w closes ∷ []) bytes
-    idle_on bytes (logs.reported k free spawned copied how) = logs.reported k (free.0, f k free.1, goes_on free.2) spawned copied how
+    idle_on bytes (logs.reported k free spawned copied how can) = logs.reported k (free.0, f k free.1, goes_on free.2) spawned copied how can
     idle_on bytes (logs.dropped k free) = logs.dropped k (free.0, f k free.1, goes_on free.2)
 
     reads_on : (bytes : List ℕ) (i : Idle digest job gives past bytes) → ReadsIdle digest job gives past bytes i
         → ReadsIdle digest job gives (past ++ lost w closes ∷ []) bytes (idle_on bytes i)
     unfolding idle_on
-    reads_on bytes (logs.reported k free spawned copied how) r = r
+    reads_on bytes (logs.reported k free spawned copied how can) r = r
     reads_on bytes (logs.dropped k free) r = r
 
   -- records of events that can all be read

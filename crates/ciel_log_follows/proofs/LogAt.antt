@@ -78,7 +78,7 @@ module _ (digest : List ℕ → List ℕ) (job : s.Job) (gives : Gives) where
 
   -- no idle record stands behind the end of a run
   idle_going : (h : List (Event s.Desc)) (bytes : List ℕ) → Idle digest job gives h bytes → (standing J h).over ≡ false
-  idle_going h bytes (logs.reported k free spawned copied how) = free.2
+  idle_going h bytes (logs.reported k free spawned copied how can) = free.2
   idle_going h bytes (logs.dropped k free) = free.2
 
   module _ (p : Plan) (header log : List ℕ) where

@@ -221,6 +221,7 @@ module _ {K N : Type 0} (gives : K → Gives) (digest : N → List ℕ → List 
       subst (λ z. Kept gives digest shop true z (sent_to (nobody m.board.plan.workers) orders) state) (sym same)
       (subst (λ xs. Kept gives digest shop true m (sent_to (nobody m.board.plan.workers) xs) state) (sym none) (record {
         orderly = first.kept.orderly;
+        bare = first.kept.bare;
         history = first.kept.history;
         runs = first.kept.runs;
         orders = first.kept.orders;
@@ -229,7 +230,7 @@ module _ {K N : Type 0} (gives : K → Gives) (digest : N → List ℕ → List 
   replays_are_kept shop log header m (suc n) orders None c first begins k state drawn =
       let x = goes_here gives digest shop m header log first.kept.orderly first begins (suc n) c.board
       (sent_to (nobody m.board.plan.workers) orders) (k.replays (omega arith)) in
-      record { orderly = first.kept.orderly; history = x.history; runs = x.run.runs; orders = x.run.orders; draws = drawn }
+      record { orderly = first.kept.orderly; bare = first.kept.bare; history = x.history; runs = x.run.runs; orders = x.run.orders; draws = drawn }
 
   pub replays_are_ended : ReplaysAreEnded gives digest
   replays_are_ended shop log header m whole orders None c first begins k = tt

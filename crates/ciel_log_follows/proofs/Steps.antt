@@ -172,7 +172,7 @@ module _ {K N : Type 0} (gives : K → Gives) (digest : N → List ℕ → List 
 
       pub idle_starts : (number worker from : ℕ) (task : TaskId) → IsRecord (started number worker from task)
           → (z : List ℕ) → record_bytes (started number worker from task) ≡ z → (i : Idle D J G h z) → ReadsIdle D J G h z i → ⊥
-      idle_starts number worker from task is z e (logs.reported k free spawned copied how) reads =
+      idle_starts number worker from task is z e (logs.reported k free spawned copied how can) reads =
           let same = one_record (started number worker from task) (read.reported k spawned copied how) is reads e in cc
       idle_starts number worker from task is z e (logs.dropped k free) reads =
           let same = one_record (started number worker from task) (dropped k) is free.0 e in cc
@@ -181,7 +181,7 @@ module _ {K N : Type 0} (gives : K → Gives) (digest : N → List ℕ → List 
       pub idle_reports : (logged : LoggedReport) → IsRecord (report_view logged) → (o : OpenStart s.Desc)
           → find_open S.job logged.number v.orders ≡ Some o → (z : List ℕ) → record_bytes (report_view logged) ≡ z
           → (i : Idle D J G h z) → ReadsIdle D J G h z i → ⊥
-      idle_reports logged is o found z e (logs.reported k free spawned copied how) reads =
+      idle_reports logged is o found z e (logs.reported k free spawned copied how can) reads =
           let same = same_number logged k spawned copied how
           (one_record (report_view logged) (read.reported k spawned copied how) is reads e) in
           found_none o (sym found ∙ subst (λ n. find_open S.job n v.orders ≡ None) same free.1)

@@ -31,7 +31,7 @@ module _ (digest : List ℕ → List ℕ) (job : s.Job) (gives : Gives) where
   ReadsEvent past (lost w closes) bytes r = ⊥
 
   abbrev pub ReadsIdle : (past : List (Event s.Desc)) (bytes : List ℕ) → Idle digest job gives past bytes → Type 0
-  ReadsIdle past bytes (logs.reported k free spawned copied how) = IsRecord (read.reported k spawned copied how)
+  ReadsIdle past bytes (logs.reported k free spawned copied how can) = IsRecord (read.reported k spawned copied how)
   ReadsIdle past bytes (logs.dropped k free) = Unit {0}
 
   -- all of them can be read, and each has a length of four bytes

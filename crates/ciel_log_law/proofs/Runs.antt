@@ -31,14 +31,16 @@ use Rattle.ciel_task_order.specs.declared.report.Report.{Report}
 use Rattle.ciel_task_order.specs.declared.shop.Shop.{Shop}
 use Rattle.ciel_table.specs.Seen.{last_wait}
 use Rattle.ciel_want.specs.History.{task_id}
-use Rattle.ciel_log.specs.Logging.{CrewLog, GoesOn, IsRecordOf, dropped, told_copies, whole}
+use Rattle.ciel_log.specs.Logging.{CrewLog, EndedSo, GoesOn, IsRecordOf, dropped, told_copies, whole}
 use Rattle.ciel_log.specs.Logs as logs
 use Rattle.ciel_log.specs.Logs.{RecordOf, Records, idle, loses, over, tells}
 use Rattle.ciel_log.specs.declared.state.LogState.{LogState}
 use Rattle.ciel_log_law.proofs.Calls.{Grows, added, all_rest, none_grows}
 use Rattle.ciel_log_law.proofs.Pieces.{Fine, FullSo, IsDropped, Onward, Piece, all, full_onward, onward}
 use Rattle.ciel_log_law.proofs.Reported.{record_told, somehow}
-use Rattle.ciel_log_records.specs.Records.{in_file, report_record, start_record}
+use Rattle.ciel_log_law.proofs.Thrown.{EndSound, of_report, places_sound, report_readable}
+use Rattle.ciel_name_law.specs.Typed.{NamedUseNothing}
+use Rattle.ciel_log_records.specs.Records.{HowEnded, in_file, report_record, start_record}
 use Rattle.ciel_run_drive.specs.Moved as moved
 use Rattle.ciel_run_drive.specs.Moved.{Moved}
 use Rattle.ciel_run_drive.specs.Telling.{TakenAs, ThrownAs}
@@ -105,7 +107,8 @@ module _ (digest : List ℕ → List ℕ) (job : s.Job) (gives : Gives) where
   told_fine h rest e x r bytes rs = tells e x r rs
 
 module _ {K N R : Type 0} (gives : K → Gives) (digest : N → List ℕ → List ℕ) (goes : R → Call → R → Type 0) (shop_ : Shop K N) (Q : Type 0)
-    (orderly : IsOrderly (digest shop_.namer) (job_view shop_.job) (gives shop_.kit)) (q : Q) where
+    (orderly : IsOrderly (digest shop_.namer) (job_view shop_.job) (gives shop_.kit)) (bare : NamedUseNothing (job_view shop_.job).script.funs)
+    (q : Q) where
   abbrev D : List ℕ → List ℕ
   D = digest shop_.namer
 
@@ -225,7 +228,7 @@ module _ {K N R : Type 0} (gives : K → Gives) (digest : N → List ℕ → Lis
 
       taken_ok : (was now : _) (y : List ℕ) → IsRecordOf r was now y
           → Fine D J G h (n.event ∷ n.rest) (h ++ n.event ∷ []) n.rest y ⊎ IsDropped D J G y
-      taken_ok was now y (whole how so made same) =
+      taken_ok was now y (whole how so told made same) =
           inl (told_fine D J G h n.rest n.event y (taken_record y (subst (RecordOf D J G x.history x.event) (sym made) (record_told x how so))))
       taken_ok was now y (dropped loss place worker made seen) = inr (r.number, made)
 
@@ -242,10 +245,16 @@ module _ {K N R : Type 0} (gives : K → Gives) (digest : N → List ℕ → Lis
       closed : Closed h
       closed = subst Closed thrown_past (x.number, x.closed, x.going)
 
+      -- what lies at its places is sound
+      end_sound : (how : HowEnded) → EndedSo r.end how → EndSound J.script how
+      end_sound how so = places_sound shop_.shelves r.worker J.script r.task r.end x.places.end how so
+
       thrown_ok : (was now : _) (y : List ℕ) → IsRecordOf r was now y → Fine D J G h es h es y ⊎ IsDropped D J G y
-      thrown_ok was now y (whole how so made same) =
+      thrown_ok was now y (whole how so told made same) =
           inl (λ bytes rs. idle y (subst (logs.Idle D J G h) (sym made) (logs.reported r.number closed
-          (map (λ (m : Named). desc_view m.desc) r.spawned.items) (told_copies r) how)) rs)
+          (map (λ (m : Named). desc_view m.desc) r.spawned.items) (told_copies r) how
+          (λ short. report_readable J.script bare r.number (map (λ (m : Named). desc_view m.desc) r.spawned.items) (told_copies r) how
+          (of_report r how told) x.spawned (end_sound how so) short))) rs)
       thrown_ok was now y (dropped loss place worker made seen) = inr (r.number, made)
 
   -- ---- records there would be

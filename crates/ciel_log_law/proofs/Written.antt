@@ -126,7 +126,7 @@ module _ {K N R : Type 0} (gives : K → Gives) (digest : N → List ℕ → Lis
     module _ (header : List ℕ) (was : Files) (before : a.log.files ≡ Some was)
         (l : Logs D J G m.board.plan header m.board.journal (bytes_at was a.log.path)) where
       moves : (more : List Entry) × (x.board.journal ≡ m.board.journal ++ more)
-      moves = more gives digest goes shop Q k.orderly k m.board x.does.calls x.board x.does.moved
+      moves = more gives digest goes shop Q k.orderly k.bare k m.board x.does.calls x.board x.does.moved
 
       lawful : LawfulFrom (the_shop D J G).job m.board.plan (before_all (the_shop D J G).job) d.0
       lawful = driven_lawful (the_shop D J G).job m.board.plan (before_all (the_shop D J G).job) d.0 d.1
@@ -137,7 +137,7 @@ module _ {K N R : Type 0} (gives : K → Gives) (digest : N → List ℕ → Lis
           (driven_lawful (the_shop D J G).job m.board.plan (before_all (the_shop D J G).job) l.history l.driven) lawful
           (d.2 ∙ (x.journal ∙ (moves.1 ∙ ap (λ z. z ++ moves.0) (sym l.entries))))
 
-      at : At gives digest goes shop Q k.orderly k l.history split.0 m.board x.board
+      at : At gives digest goes shop Q k.orderly k.bare k l.history split.0 m.board x.board
       at =
           record {
             lawful = (m.board.plan, subst (LawfulFrom (the_shop D J G).job m.board.plan (before_all (the_shop D J G).job)) split.1 lawful);
@@ -148,7 +148,7 @@ module _ {K N R : Type 0} (gives : K → Gives) (digest : N → List ℕ → Lis
       module _ (files : Files) (told : t.log.files ≡ Some files) (none : HasDropped (bytes_at files a.log.path) → ⊥) where
         grown : Grows D J G l.history split.0 a.log t.log files
         grown =
-            runs gives digest goes shop Q k.orderly k l.history split.0 m.board x.does.calls x.board x.does.moved at a t
+            runs gives digest goes shop Q k.orderly k.bare k l.history split.0 m.board x.does.calls x.board x.does.moved at a t
             x.does.went st files told
 
         same_was : grown.was ≡ was

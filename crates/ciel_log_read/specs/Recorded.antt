@@ -58,6 +58,10 @@ IsRecord (started number worker from task) = Fits64 number × (Fits32 worker × 
 IsRecord (reported number spawned copied how) = Fits64 number × (Counted IsSpawned spawned × (Counted IsNamed copied × IsEnd how))
 IsRecord (dropped number) = Fits64 number
 
+-- where it isn't too long it can be read
+abbrev pub CanBeRead : Recorded → Type 0
+CanBeRead r = FitsBlock (record_bytes r) → IsRecord r
+
 -- no record has these bytes
 abbrev pub NoRecord : List ℕ → Type 0
 NoRecord bytes = (r : Recorded) → IsRecord r → record_bytes r ≡ bytes → ⊥

@@ -32,8 +32,8 @@ use Rattle.ciel_task_order.specs.Named.{by_names}
 use Rattle.ciel_want.specs.History.{task_id}
 use Rattle.ciel_log_readable.specs.Readable.{OfShortBytes}
 use Rattle.ciel_log_readable.proofs.Jobs as jobs
-use Rattle.ciel_log_readable.proofs.Reports.{answered_fits, end_short, made_fits, report_fits, saved_fits}
-use Rattle.ciel_log_readable.proofs.Sizes.{Short}
+use Rattle.ciel_log_read.proofs.Reports.{answered_fits, end_short, made_fits, report_fits, saved_fits}
+use Rattle.ciel_log_read.proofs.Sizes.{Short}
 
 module _ {D : Type 0} where
   -- ---- what is made in a part of what a task does

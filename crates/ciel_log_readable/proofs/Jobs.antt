@@ -44,7 +44,7 @@ use Rattle.ciel_task_order.specs.Named.{by_names, frozen_mark, mark_of, name_of,
 use Rattle.ciel_log_readable.specs.Readable.{OfShortBytes}
 use Rattle.ciel_log_readable.proofs.Names.{name_given, value_data}
 use Rattle.ciel_log_readable.proofs.Nodes.{todo_fits}
-use Rattle.ciel_log_readable.proofs.Sizes.{Short}
+use Rattle.ciel_log_read.proofs.Sizes.{Short}
 use Rattle.ciel_log_readable.proofs.Stacks.{few_visits, stand_spelled}
 
 -- ---- what a sound description over names keeps

@@ -10,14 +10,13 @@ use Rattle.ciel_journal.specs.Job.{Job}
 use Rattle.ciel_journal.specs.Lawful.{Lawful, LawfulFrom, Step}
 use Rattle.ciel_journal.specs.Turns.{DrivenFrom}
 use Rattle.ciel_journal.proofs.Append.{after_append, lawful_append}
-use Rattle.ciel_log.specs.Logging.{most}
 use Rattle.ciel_log.specs.Logs as logs
-use Rattle.ciel_log.specs.Logs.{Logs, Records}
-use Rattle.ciel_log_follows.specs.Begins.{AllReadable, BeginsLog}
+use Rattle.ciel_log.specs.Logs.{AllFit, Idle, Logs, Records}
+use Rattle.ciel_log_follows.specs.Begins.{AllReadable, BeginsLog, ReadsIdle}
 use Rattle.ciel_log_read.specs.Recorded.{FitsBlock}
 use Rattle.ciel_log_records.specs.Records.{in_file}
 use Rattle.ciel_task_order.specs.Named.{shop_job}
-use Rattle.ciel_log_readable.specs.Readable.{BeginsWritten, IdlesReadable, IsWritable}
+use Rattle.ciel_log_readable.specs.Readable.{BeginsWritten, IsWritable}
 use Rattle.ciel_log_readable.proofs.Events.{SavedFits, SavesFit, event_read, saves_on, starts_on}
 
 -- what is driven is lawful
@@ -56,53 +55,52 @@ module _ (digest : List ℕ → List ℕ) (job : s.Job) (gives : Gives) (p : Pla
         starts = subst (λ (v : Standing s.Desc). v.starts ≤ m) (sym (one_more past e)) le;
       }
 
-  each : {past es : List (Event s.Desc)} {rest : List ℕ} → (r : Records digest job gives past es rest) → (n : ℕ) → At past n
-      → LawfulFrom the p (standing the past) es → n + length rest < 2 ^ 32 → IdlesReadable digest job gives r → AllReadable digest job gives r
-  each logs.over n a l few i = tt
-  each (logs.idle {past} {es} {rest} bytes d more) n a l few i =
+  -- a record of no open Start can be read where it is short
+  idle_read : (past : List (Event s.Desc)) (bytes : List ℕ) (d : Idle digest job gives past bytes) → FitsBlock bytes
+      → ReadsIdle digest job gives past bytes d
+  idle_read past bytes (logs.reported k free spawned copied how can) l = can l
+  idle_read past bytes (logs.dropped k free) l = tt
+
+  each : {past es : List (Event s.Desc)} {rest : List ℕ} → (r : Records digest job gives past es rest) → AllFit digest job gives r → (n : ℕ)
+      → At past n → LawfulFrom the p (standing the past) es → n + length rest < 2 ^ 64 → AllReadable digest job gives r
+  each logs.over f n a l few = tt
+  each (logs.idle {past} {es} {rest} bytes d more) f n a l few =
       let long = length-append (in_file bytes) rest in
-      let file = file_length bytes in
-      let all : n + length (in_file bytes ++ rest) < 4294967296 = few in
-      let short : length bytes < 4294967296 = omega (arith, long, file, all) in
-      let less : n + length rest < 4294967296 = omega (arith, long, all) in
-      (short, i.0, each more n a l less i.1)
-  each (logs.loses {past} {es} {rest} u closes more) n a l few i =
+      let all : n + length (in_file bytes ++ rest) < 18446744073709551616 = few in
+      let less : n + length rest < 18446744073709551616 = omega (arith, long, all) in
+      (f.0, idle_read past bytes d f.0, each more f.1 n a l less)
+  each (logs.loses {past} {es} {rest} u closes more) f n a l few =
       let starts = a.starts in
-      each more n (onward past (lost u closes) n n a l.0 tt starts)
-      (subst (λ (v : Standing s.Desc). LawfulFrom the p v es) (sym (one_more past (lost u closes))) l.1) few i
-  each (logs.tells {past} {es} {rest} e bytes r more) n a l few i =
+      each more f n (onward past (lost u closes) n n a l.0 tt starts)
+      (subst (λ (v : Standing s.Desc). LawfulFrom the p v es) (sym (one_more past (lost u closes))) l.1) few
+  each (logs.tells {past} {es} {rest} e bytes r more) f n a l few =
       let long = length-append (in_file bytes) rest in
       let file = file_length bytes in
-      let all : n + length (in_file bytes ++ rest) < 4294967296 = few in
-      let short : length bytes < 4294967296 = omega (arith, long, file, all) in
+      let all : n + length (in_file bytes ++ rest) < 18446744073709551616 = few in
       let starts = a.starts in
       let small : (standing the past).starts < 18446744073709551616 = omega (arith, starts, all) in
-      let told = event_read digest job gives w.script w.names p w.workers w.losses past a.lawful small a.saves e l.0 bytes r short in
+      let told = event_read digest job gives w.script w.names p w.workers w.losses past a.lawful small a.saves e l.0 bytes r f.0 in
       let one = starts_on the (standing the past) e in
       let grown : (after the (standing the past) e).starts ≤ n + length (in_file bytes) = omega (arith, starts, one, file) in
-      let less : n + length (in_file bytes) + length rest < 4294967296 = omega (arith, long, all) in (
-        short,
+      let less : n + length (in_file bytes) + length rest < 18446744073709551616 = omega (arith, long, all) in (
+        f.0,
         told.0,
-        each more (n + length (in_file bytes)) (onward past e n (n + length (in_file bytes)) a l.0 told.1 grown)
-            (subst (λ (v : Standing s.Desc). LawfulFrom the p v es) (sym (one_more past e)) l.1) less i,
+        each more f.1 (n + length (in_file bytes)) (onward past e n (n + length (in_file bytes)) a l.0 told.1 grown)
+            (subst (λ (v : Standing s.Desc). LawfulFrom the p v es) (sym (one_more past e)) l.1) less,
       )
 
-  module _ (header : List ℕ) (journal : List Entry) (all : List ℕ) (l : Logs digest job gives p header journal all) (few : length all ≤ most) where
-    long : length all ≡ length header + 4 + length l.rest
-    long =
+  module _ (header : List ℕ) (journal : List Entry) (all : List ℕ) (l : Logs digest job gives p header journal all)
+      (fit : AllFit digest job gives l.records) (few : length all < 2 ^ 64) where
+    less : 0 + length l.rest < 2 ^ 64
+    less =
         let e = ap length l.all in
         let both = length-append (in_file header) l.rest in
-        let file = file_length header in
-        omega (arith, e, both, file)
+        let all_few : length all < 18446744073709551616 = few in
+        let lt : 0 + length l.rest < 18446744073709551616 = omega (arith, e, both, all_few) in
+        lt
 
-    pub all_readable : IdlesReadable digest job gives l.records → AllReadable digest job gives l.records
-    all_readable i =
-        let sum = long in
-        let less : 0 + length l.rest < 4294967296 = omega (arith, sum, few) in
-        each l.records 0 at_first (driven_from the p (before_all the) l.history l.driven) less i
-
-    header_short : FitsBlock header
-    header_short = let sum = long in let lt : length header < 4294967296 = omega (arith, sum, few) in lt
+    pub all_readable : AllReadable digest job gives l.records
+    all_readable = each l.records fit 0 at_first (driven_from the p (before_all the) l.history l.driven) less
 
   pub begins : (header bytes : List ℕ) → BeginsWritten digest job gives p header bytes → BeginsLog digest job gives p header bytes
   begins header bytes b =
@@ -110,7 +108,7 @@ module _ (digest : List ℕ → List ℕ) (job : s.Job) (gives : Gives) (p : Pla
         journal = b.journal;
         all = b.all;
         log = b.log;
-        short = header_short header b.journal b.all b.log b.within;
-        read = all_readable header b.journal b.all b.log b.within b.idles;
+        short = b.short;
+        read = all_readable header b.journal b.all b.log b.fit b.long;
         prefix = b.prefix;
       }

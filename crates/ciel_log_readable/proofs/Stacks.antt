@@ -20,7 +20,7 @@ use Rattle.sky_frozen_bytes.specs.Spelled.{EachKept, FrameSpelled, StandSpelled,
 use Rattle.ciel_name.specs.Spelled.{IsData, PairsSpelled}
 use Rattle.ciel_name_law.specs.Typed.{GivesNames, NamedUseNothing}
 use Rattle.ciel_log_readable.proofs.Names.{rising_low, value_data}
-use Rattle.ciel_log_readable.proofs.Sizes.{Short, back_short, counted_short, front_short, pairs_many, tail_short, value_some}
+use Rattle.ciel_log_read.proofs.Sizes.{Short, back_short, counted_short, front_short, pairs_many, tail_short, value_some}
 
 pub few_visits : (n : ℕ) → n ≤ visits → Fits32 n
 unfolding visits

@@ -5,12 +5,11 @@ use Rattle.sky_base.specs.Name.{digested}
 use Rattle.sky_base.specs.See as s
 use Rattle.sky_parse.specs.Source.{IsScript}
 use Rattle.ciel_journal.specs.Entries.{Entry}
-use Rattle.ciel_journal.specs.History.{Event, Plan}
+use Rattle.ciel_journal.specs.History.{Plan}
 use Rattle.ciel_journal.specs.Job.{IsPrefix}
-use Rattle.ciel_log.specs.Logging.{most}
-use Rattle.ciel_log.specs.Logs as logs
-use Rattle.ciel_log.specs.Logs.{Logs, Records}
-use Rattle.ciel_log_follows.specs.Begins.{AllReadable, BeginsLog, ReadsIdle}
+use Rattle.ciel_log.specs.Logs.{AllFit, Logs}
+use Rattle.ciel_log_follows.specs.Begins.{AllReadable, BeginsLog}
+use Rattle.ciel_log_read.specs.Recorded.{FitsBlock}
 use Rattle.ciel_name_law.specs.Typed.{GivesNames}
 
 -- the script is that of some bytes, at most 1,048,576
@@ -25,28 +24,22 @@ pub record IsWritable (digest : List ℕ → List ℕ) (job : s.Job) (p : Plan) 
   pub losses : length p.losses < 2 ^ 32
 
 module _ (digest : List ℕ → List ℕ) (job : s.Job) (gives : Gives) where
-  -- the records of no open Start can be read
-  abbrev pub IdlesReadable : {past es : List (Event s.Desc)} {bytes : List ℕ} → Records digest job gives past es bytes → Type 0
-  IdlesReadable logs.over = Unit {0}
-  IdlesReadable {past} (logs.idle bytes i more) = ReadsIdle digest job gives past bytes i × IdlesReadable more
-  IdlesReadable (logs.loses w closes more) = IdlesReadable more
-  IdlesReadable (logs.tells e bytes r more) = IdlesReadable more
-
-  -- the bytes begin a log of a journal that isn't longer than a log may be, and whose records of no open Start can be read
+  -- the bytes begin a log of a journal, each of whose records has a length of four bytes, and which has itself one of eight
   pub record BeginsWritten (p : Plan) (header bytes : List ℕ) : Type 0 where
     pub journal : List Entry
     pub all : List ℕ
     pub log : Logs digest job gives p header journal all
-    pub within : length all ≤ most
-    pub idles : IdlesReadable log.records
+    pub short : FitsBlock header
+    pub fit : AllFit digest job gives log.records
+    pub long : length all < 2 ^ 64
     pub prefix : IsPrefix bytes all
 
--- each record of a log can be read that isn't longer than a log may be, where those of no open Start can
+-- each record of such a log can be read
 abbrev pub LogsAreReadable : Type 0
 LogsAreReadable =
     (digest : List ℕ → List ℕ) (job : s.Job) (gives : Gives) (p : Plan) (header : List ℕ) (journal : List Entry) (all : List ℕ)
-    → IsWritable digest job p → (l : Logs digest job gives p header journal all) → length all ≤ most
-    → IdlesReadable digest job gives l.records → AllReadable digest job gives l.records
+    → IsWritable digest job p → (l : Logs digest job gives p header journal all) → AllFit digest job gives l.records → length all < 2 ^ 64
+    → AllReadable digest job gives l.records
 
 -- so what begins such a log begins one that can be gone on from
 abbrev pub BeginningsAreRead : Type 0

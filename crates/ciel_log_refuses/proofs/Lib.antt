@@ -1,4 +1,4 @@
-mod Cut
+pub mod Cut
 mod Chosen
 mod Kept
 mod Never

@@ -146,7 +146,7 @@ module _ {K N : Type 0} (gives : K → Gives) (digest : N → List ℕ → List 
   -- ---- bytes that are no record
 
   idle_is : (z : List ℕ) (i : Idle D J G h z) → ReadsIdle D J G h z i → NoRecord z → ⊥
-  idle_is z (logs.reported k free spawned copied how) reads fails = fails (read.reported k spawned copied how) reads refl
+  idle_is z (logs.reported k free spawned copied how can) reads fails = fails (read.reported k spawned copied how) reads refl
   idle_is z (logs.dropped k free) reads fails = fails (dropped k) free.0 refl
 
   event_is : NoRecord bytes → (a : Event s.Desc) (rec : RecordOf D J G h a bytes) → ReadsEvent D J G h a bytes rec → ⊥
@@ -254,7 +254,7 @@ module _ {K N : Type 0} (gives : K → Gives) (digest : N → List ℕ → List 
   module _ (number : ℕ) (readable : IsRecord (dropped number)) (e : record_bytes (dropped number) ≡ bytes)
       (some : find_order number b.board.orders ≡ None → ⊥) where
     drop_idle : (z : List ℕ) → record_bytes (dropped number) ≡ z → (i : Idle D J G h z) → ReadsIdle D J G h z i → ⊥
-    drop_idle z e (logs.reported k free spawned copied how) reads =
+    drop_idle z e (logs.reported k free spawned copied how can) reads =
         let same = one_record (dropped number) (read.reported k spawned copied how) readable reads e in cc
     drop_idle z e (logs.dropped k free) reads =
         let same = one_record (dropped number) (dropped k) readable free.0 e in

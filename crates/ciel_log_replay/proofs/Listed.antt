@@ -160,6 +160,7 @@ module _ {K N : Type 0} {gives : K → Gives} {digest : N → List ℕ → List 
   left_kept k =
       record {
         orderly = k.orderly;
+        bare = k.bare;
         history = k.history;
         runs = k.runs;
         orders = λ w x o i. k.orders w x o (back m.board out w x i);

@@ -13,13 +13,14 @@ use Rattle.ciel_journal.specs.Lawful.{Step}
 use Rattle.ciel_journal.specs.Turns.{DrivenFrom, FirstDue, Turn}
 use Rattle.ciel_journal.proofs.OneWorker.{first_one}
 use Rattle.ciel_log.specs.Logs as logs
+use Rattle.ciel_log.specs.Logs.{AllFit}
 use Rattle.ciel_log_records.specs.Records.{in_file}
 use Rattle.ciel_log_read.specs.Recorded.{FitsBlock, IsRecord, Recorded, record_bytes}
 use Rattle.ciel_look_law.specs.Events as events
 use Rattle.ciel_look_law.specs.Events.{AllLost, AllTold, DueThere, EventTold}
 use Rattle.ciel_look_law.specs.Journal as journal
 use Rattle.ciel_look_law.specs.Journal.{IsJournal, IsOf}
-use Rattle.ciel_look_law.specs.Laws.{AllFit, NamesFit, WaitFits}
+use Rattle.ciel_look_law.specs.Laws.{NamesFit, WaitFits}
 use Rattle.ciel_look_law.proofs.Happened.{happens}
 use Rattle.ciel_look_law.proofs.Left as next
 use Rattle.ciel_look_law.proofs.Left.{FitRecords, Frees, J, NextIs, Rs, free_on, idle_late, laws, lose_first, next_is, one_more}

@@ -10,12 +10,11 @@ use Rattle.ciel_journal.proofs.Members.{bool_cases}
 use Rattle.ciel_journal_job.proofs.RealLaw.{real_laws}
 use Rattle.ciel_json.specs.Around.{json_around}
 use Rattle.ciel_log.specs.Logs as logs
-use Rattle.ciel_log.specs.Logs.{Idle, RecordOf, Records}
+use Rattle.ciel_log.specs.Logs.{AllFit, Idle, RecordOf, Records}
 use Rattle.ciel_log_records.specs.Records.{in_file}
 use Rattle.ciel_log_read.specs.Recorded as read
 use Rattle.ciel_log_read.specs.Recorded.{FitsBlock, IsRecord, Recorded, record_bytes}
 use Rattle.ciel_log_read.proofs.Pieces.{blocks_free}
-use Rattle.ciel_look_law.specs.Laws.{AllFit}
 use Rattle.ciel_look_law.proofs.Bytes.{one_dropped, one_number}
 use Rattle.ciel_look_story.specs.Story.{Stand, after as after_record, closed, is_out, is_shown, tell}
 use Rattle.ciel_look_told.specs.Told as told
@@ -69,8 +68,8 @@ module _ (digest : List ℕ → List ℕ) (job : s.Job) (gives : Gives) where
 
   idle_on : (past : List (Event s.Desc)) (w closes : ℕ) (bytes : List ℕ) → Idle digest job gives past bytes
       → Idle digest job gives (past ++ lost w closes ∷ []) bytes
-  idle_on past w closes bytes (logs.reported k free spawned copied how) =
-      logs.reported k (free.0, free_on past w closes k free.1, goes_on past w closes free.2) spawned copied how
+  idle_on past w closes bytes (logs.reported k free spawned copied how can) =
+      logs.reported k (free.0, free_on past w closes k free.1, goes_on past w closes free.2) spawned copied how can
   idle_on past w closes bytes (logs.dropped k free) = logs.dropped k (free.0, free_on past w closes k free.1, goes_on past w closes free.2)
 
   -- records that each have a length of four bytes
@@ -129,11 +128,11 @@ module _ (digest : List ℕ → List ℕ) (job : s.Job) (gives : Gives) where
 
   pub idle_late : (past : List (Event s.Desc)) (v : Stand) → Frees past v → (r : Recorded) → IsRecord r → (bytes : List ℕ)
       → Idle digest job gives past bytes → record_bytes r ≡ bytes → Late past v r
-  idle_late past v f (read.started n w from t) g bytes (logs.reported k free ds ns how) e =
+  idle_late past v f (read.started n w from t) g bytes (logs.reported k free ds ns how can) e =
       let h = ap (λ b. get_or b 0 0) e in absurd (omega (arith, h))
   idle_late past v f (read.started n w from t) g bytes (logs.dropped k free) e =
       let h = ap (λ b. get_or b 0 0) e in absurd (omega (arith, h))
-  idle_late past v f (read.reported n es ms way) g bytes (logs.reported k free ds ns how) e =
+  idle_late past v f (read.reported n es ms way) g bytes (logs.reported k free ds ns how can) e =
       let same = one_number n k es ds ms ns way how g.0 free.0 e in
       let out : is_out v n ≡ false = ap (is_out v) same ∙ f k free.1 in
       record {
@@ -144,7 +143,7 @@ module _ (digest : List ℕ → List ℕ) (job : s.Job) (gives : Gives) where
       }
   idle_late past v f (read.reported n es ms way) g bytes (logs.dropped k free) e =
       let h = ap (λ b. get_or b 0 0) e in absurd (omega (arith, h))
-  idle_late past v f (read.dropped n) g bytes (logs.reported k free ds ns how) e =
+  idle_late past v f (read.dropped n) g bytes (logs.reported k free ds ns how can) e =
       let h = ap (λ b. get_or b 0 0) e in absurd (omega (arith, h))
   idle_late past v f (read.dropped n) g bytes (logs.dropped k free) e =
       let same = one_dropped n k g free.0 e in

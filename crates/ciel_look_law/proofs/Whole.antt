@@ -9,12 +9,12 @@ use Rattle.ciel_journal.specs.History.{Event, Plan, before_all, standing}
 use Rattle.ciel_journal.specs.Job.{Each, Job}
 use Rattle.ciel_journal.specs.Turns.{Driven}
 use Rattle.ciel_journal.proofs.Append.{driven_split}
-use Rattle.ciel_log.specs.Logs.{Logs}
+use Rattle.ciel_log.specs.Logs.{AllFit, Logs}
 use Rattle.ciel_log_records.specs.Records.{in_file}
 use Rattle.ciel_log_read.specs.File.{NoRecordAt}
 use Rattle.ciel_log_read.specs.Recorded.{FitsBlock, Recorded, record_bytes}
 use Rattle.ciel_log_read.proofs.Pieces.{blocks_free}
-use Rattle.ciel_look_law.specs.Laws.{AllFit, CutLogTellsOwn, HasPlan, LogTellsOwn, NamesFit, Own, WaitFits}
+use Rattle.ciel_look_law.specs.Laws.{CutLogTellsOwn, HasPlan, LogTellsOwn, NamesFit, Own, WaitFits}
 use Rattle.ciel_look_law.proofs.Found.{Found, bytes_of, found}
 use Rattle.ciel_look_law.proofs.Left.{J, all_fit, laws}
 use Rattle.ciel_look_law.proofs.Stands.{agrees_first}

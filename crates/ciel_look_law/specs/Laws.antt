@@ -9,8 +9,7 @@ use Rattle.ciel_journal.specs.History.{Event, Plan, lost, standing}
 use Rattle.ciel_journal.specs.Job.{Each, IsPrefix, Job}
 use Rattle.ciel_journal.specs.Turns.{Driven}
 use Rattle.ciel_log.specs.Logging.{most}
-use Rattle.ciel_log.specs.Logs as logs
-use Rattle.ciel_log.specs.Logs.{Logs, Records}
+use Rattle.ciel_log.specs.Logs.{AllFit, Logs}
 use Rattle.ciel_log_records.specs.Records.{header_record}
 use Rattle.ciel_log_read.specs.Recorded.{FitsBlock, IsNamed}
 use Rattle.ciel_look_law.specs.Events.{AllTold, DueThere}
@@ -44,13 +43,6 @@ head_of workers seed planned short script inputs =
 module _ (digest : List ℕ → List ℕ) (job : s.Job) (gives : Gives) where
   abbrev J : Job s.Desc
   J = shop_job digest job gives
-
-  -- each record has a length of four bytes
-  abbrev pub AllFit : {past es : List (Event s.Desc)} {bytes : List ℕ} → Records digest job gives past es bytes → Type 0
-  AllFit logs.over = Unit {0}
-  AllFit (logs.idle bytes i more) = FitsBlock bytes × AllFit more
-  AllFit (logs.loses w closes more) = AllFit more
-  AllFit (logs.tells e bytes r more) = FitsBlock bytes × AllFit more
 
   -- ---- what is so then
 

@@ -1,12 +1,16 @@
 //! Reading values and descriptions.
 
-ghost use Rattle.sky_base.specs.ObjectView.{desc_view};
+ghost use Rattle.sky_base.specs.ObjectView.{desc_view, object_view};
 ghost use Rattle.sky_base.specs.View.{pairs_of, vals_of, view};
 ghost use Rattle.sky_base.specs.declared.object.Named.{Named as NamedSeen};
 ghost use Rattle.sky_base_law.specs.Tasks.{Each};
-ghost use Rattle.ciel_name_law.specs.Told.{DescTold, PairsTold, Told, ValsTold};
+ghost use Rattle.sky_base.specs.Val.{known};
+ghost use Rattle.ciel_name.specs.Spelled.{IsName};
+ghost use Rattle.ciel_name_law.specs.Told.{DescTold, FaultTold, ObjectTold, PairsTold, Told, ValsTold};
 
-use sky_base::object::{Desc1, Named};
+use sky_base::fault::Fault;
+use sky_base::name::Name;
+use sky_base::object::{Desc1, Named, Object};
 use sky_base::value::{Pair, Value};
 
 /// Reads a description as a whole. It takes no memory.
@@ -36,6 +40,32 @@ pub fn read_all(descs: &[Named])
     for named in descs {
         read_desc(&named.desc);
     }
+}
+
+/// Reads an object with all that it holds. It takes no memory.
+pub fn read_object(object: &Object)
+    ensures told { ObjectTold (object_view object.now) }
+{
+    match object {
+        Object::Bytes(_) => {}
+        Object::Data(value) => read(value),
+        Object::Fault(fault) => read_fault(fault),
+    }
+}
+
+/// Reads the place of a fault.
+pub fn read_fault(fault: &Fault)
+    ensures told { FaultTold fault.now }
+{
+    let _line = fault.line;
+    let _col = fault.col;
+}
+
+/// Reads a name.
+pub fn read_name(name: &Name)
+    ensures told { IsName (known name.now) }
+{
+    let _name = name.bytes();
 }
 
 // Reads a value with all that it holds.

@@ -379,7 +379,7 @@ module _ {K N : Type 0} {gives : K → Gives} {digest : N → List ℕ → List 
       fits_safely none =
           record {
             fits = a.performs.fits b k.work.safe.sound found_own rows_now none;
-            safe = a.safely b k.work.safe.keys rows_now (goes_desc b.main b.table order.task order.desc (k.goes r.worker order e)) none;
+            safe = a.safely.1 b k.work.safe.keys rows_now (goes_desc b.main b.table order.task order.desc (k.goes r.worker order e)) none;
           }
 
       missed_of : IsMissedOf D b (order_view order) r.end

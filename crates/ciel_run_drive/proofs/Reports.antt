@@ -122,6 +122,7 @@ module _ {K N : Type 0} {gives : K → Gives} {digest : N → List ℕ → List 
   thrown_kept {again} same {still} =
       subst (λ z. Kept gives digest z still m then draw) (sym same) (record {
         orderly = k.orderly;
+        bare = k.bare;
         history = k.history;
         runs = k.runs;
         orders = fewer k.history (fewer_orders S k.history k.history (slots_of out) k.orders (λ o i. i) r.worker);
@@ -137,6 +138,8 @@ module _ {K N : Type 0} {gives : K → Gives} {digest : N → List ℕ → List 
         closed = none_open S r.number (standing S.job k.history).orders b.orders k.runs.follows.stands.orders none;
         number = fits;
         going = k.runs.follows.stands.going at.work.going;
+        spawned = a.safely.0;
+        places = subst (λ w. PlacesSound shop_.shelves w J.script r) (sym a.performs.worker) a.places;
       }
 
   -- ---- taken
@@ -266,6 +269,7 @@ module _ {K N : Type 0} {gives : K → Gives} {digest : N → List ℕ → List 
           subst (λ z. Kept gives digest z still m2 then draw) (sym same)
           (subst (λ z. Kept gives digest shop_ still z then draw) (sym new_is) (record {
             orderly = k.orderly;
+            bare = k.bare;
             history = k.history ++ more.event ∷ [];
             runs = more.runs;
             orders = fewer (k.history ++ more.event ∷ []) more.orders;

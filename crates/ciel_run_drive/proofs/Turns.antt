@@ -94,7 +94,7 @@ module _ {K N : Type 0} {gives : K → Gives} {digest : N → List ℕ → List 
     pub lost_kept : Kept gives digest shop_ sound c out state
     lost_kept =
         subst (λ z. Kept gives digest shop_ sound z out state) (sym new)
-        (record { orderly = k.orderly; history = k.history ++ more.event ∷ []; runs = more.runs; orders = more.orders; draws = k.draws })
+        (record { orderly = k.orderly; bare = k.bare; history = k.history ++ more.event ∷ []; runs = more.runs; orders = more.orders; draws = k.draws })
 
   -- ---- a start
 
@@ -115,6 +115,7 @@ module _ {K N : Type 0} {gives : K → Gives} {digest : N → List ℕ → List 
     start_kept order view {then} sent {again} same {still} {last} is_last =
         subst (λ a. Kept gives digest a still c then last) (sym same) (subst (λ z. Kept gives digest shop_ still z then last) (sym new) (record {
           orderly = k.orderly;
+          bare = k.bare;
           history = k.history ++ begun.event ∷ [];
           runs = begun.runs;
           orders = subst (OrdersOf S (k.history ++ begun.event ∷ []))

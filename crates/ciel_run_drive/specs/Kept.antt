@@ -10,6 +10,7 @@ use Rattle.ciel_master_board.specs.Driving.{Runs}
 use Rattle.ciel_task_crew.specs.Turns.{most_waits}
 use Rattle.ciel_master_law.specs.Ends.{IsOrderly, worker_of}
 use Rattle.ciel_master.specs.Seen.{MasterSeen}
+use Rattle.ciel_name_law.specs.Typed.{NamedUseNothing}
 use Rattle.ciel_task_order.specs.Performs.{the_shop}
 use Rattle.ciel_task_order.specs.Views.{P, order_view}
 use Rattle.ciel_task_order.specs.declared.order.Order.{Order}
@@ -27,6 +28,7 @@ module _ {K N : Type 0} (gives : K → Gives) (digest : N → List ℕ → List 
   -- what the crew has are orders of it. What holds whatever was reported is said by `Working`
   pub record Kept (shop : Shop K N) (unbroken : Bool) (m : MasterSeen N) (out : List (Option Order)) (state : ℕ) : Type 0 where
     pub orderly : IsOrderly (digest shop.namer) (job_view shop.job) (gives shop.kit)
+    pub bare : NamedUseNothing (job_view shop.job).script.funs
     pub history : List (Event s.Desc)
     pub runs : Runs (the_shop (digest shop.namer) (job_view shop.job) (gives shop.kit)) history m.board
     pub orders : OrdersOf (the_shop (digest shop.namer) (job_view shop.job) (gives shop.kit)) history (slots_of out)

@@ -1,5 +1,5 @@
 -- What a report tells of a run's history: one that is taken an event more, and one that is thrown away nothing.
-use Rattle.std.specs.Prelude.{◌≡◌, ◌<◌, ◌^◌, ℕ, false, List, [], ◌∷◌, ◌++◌, Some, None}
+use Rattle.std.specs.Prelude.{◌≡◌, ◌<◌, ◌^◌, ℕ, false, List, [], ◌∷◌, ◌++◌, Some, None, map}
 use Rattle.sky_base.specs.JobView.{job_view}
 use Rattle.sky_base.specs.KitView.{Gives}
 use Rattle.sky_base.specs.See as s
@@ -9,7 +9,9 @@ use Rattle.ciel_journal.specs.Lawful.{Lawful}
 use Rattle.ciel_journal_job.specs.Report.{report_of}
 use Rattle.ciel_master_board.specs.Board.{Board}
 use Rattle.ciel_master_board.specs.Laws.{Lies}
-use Rattle.ciel_master_board.specs.Reports.{report_view}
+use Rattle.ciel_master_board.specs.Reports.{named_view, report_view}
+use Rattle.ciel_master_board.specs.BaseLawSound.{SoundDesc}
+use Rattle.ciel_master_board.specs.Tasks.{Each}
 use Rattle.ciel_master_board.specs.Setting.{Setting}
 use Rattle.ciel_task_order.specs.Performs.{AnswerIs, OfTask, the_shop}
 use Rattle.ciel_task_order.specs.Places.{PlacesSound}
@@ -50,3 +52,6 @@ module _ {K N : Type 0} (gives : K → Gives) (digest : N → List ℕ → List 
     pub closed : find_open S.job r.number (standing S.job history).orders ≡ None
     pub number : r.number < 2 ^ 64
     pub going : (standing S.job history).over ≡ false
+    -- what it spawned, and what lies at its places, is sound for the script
+    pub spawned : Each (SoundDesc (job_view shop.job).script) (map named_view r.spawned.items)
+    pub places : PlacesSound shop.shelves r.worker (job_view shop.job).script r

@@ -30,6 +30,9 @@ use Rattle.std.proofs.lemmas.List.{length-map}
 use Rattle.ciel_run_drive.specs.Working.{Working}
 use Rattle.ciel_run_drive.specs.Turns.{AtWork}
 use Rattle.ciel_run_drive.proofs.TurnsLemmas.{opened_works}
+use Rattle.sky_base.specs.Tree.{Script}
+use Rattle.ciel_name_law.specs.Typed.{NamedUseNothing}
+use Rattle.ciel_name_law.proofs.Made.{script_uses}
 
 -- workers without an order, as the turns see them
 pub none_out : (n : ℕ) → slots_of (replicate n None) ≡ replicate n None
@@ -56,6 +59,10 @@ module _ {K N : Type 0} (gives : K → Gives) (digest : N → List ℕ → List 
   orderly : FunctionsAreOrderly → IsRead J.script → IsOrderly D J G
   orderly f r = f r.0 r.1 J.script r.2
 
+  -- and named ones use nothing
+  bare : IsRead J.script → NamedUseNothing J.script.funs
+  bare (source, keys, (ts, tops, found, valid, is), few) = subst (λ (sc : Script). NamedUseNothing sc.funs) (sym is) (script_uses keys tops)
+
   module _ (o : IsOpened digest plan shop m eyes) (read : IsRead J.script) (inputs : InputsInOrder J) (functions : FunctionsAreOrderly) where
     abbrev first : Board P
     first = opened D (plan_view plan) shop.job.script.keys o.main
@@ -65,6 +72,7 @@ module _ {K N : Type 0} (gives : K → Gives) (digest : N → List ℕ → List 
         let lower : (the_shop D J G).lower (the_shop D J G).job.main ≡ desc_view o.main.desc = sym (ap desc_view o.is_main) in
         subst (λ z. Kept gives digest shop true z (replicate plan.workers None) plan.seed) (sym o.master) (record {
           orderly = orderly functions read;
+          bare = bare read;
           history = [];
           runs = opened_runs (the_shop D J G) (shop_is D J G (orderly functions read)) (plan_view plan) o.main o.named lower;
           orders = λ w x o i j e. absurd j;

@@ -266,13 +266,25 @@ module _ (digest : List ℕ → List ℕ) (shelves : ShelvesSeen) (sc : Script) 
         end = end_safe w.step w.new r.end w.end w.knows.leaves w.fits w.kind;
       }
 
+-- what it spawned is sound: what its run made, or nothing
+ran_sound : (digest : List ℕ → List ℕ) (shelves : ShelvesSeen) (sc : Script) (inputs : List (List ℕ × List ℕ)) (order : Order)
+    → (r : rust.Report) (eye : SeatSeen) → Ran digest shelves sc inputs order eye r → Each (SoundDesc sc) (map named_view r.spawned.items)
+ran_sound digest shelves sc inputs order r eye (went x b w) =
+    subst (Each (SoundDesc sc)) (sym (same_made digest r.spawned.items w.sound.made w.sound.grew)) w.sound.sound
+ran_sound digest shelves sc inputs order r eye (lost x b nm loss l told) =
+    subst (λ (ns : List Named). Each (SoundDesc sc) (map named_view ns)) (sym told.spawned) tt
+ran_sound digest shelves sc inputs order r eye (stack loss l told) =
+    subst (λ (ns : List Named). Each (SoundDesc sc) (map named_view ns)) (sym told.spawned) tt
+
 -- whatever its run came to
 pub ran_safe : (digest : List ℕ → List ℕ) (shelves : ShelvesSeen) (sc : Script) (inputs : List (List ℕ × List ℕ)) (order : Order)
     → OrderSound digest shelves sc (length inputs) order → HasState order.desc → (r : rust.Report) (eye : SeatSeen)
     → Ran digest shelves sc inputs order eye r → PerformsSafely digest shelves sc order r
-ran_safe digest shelves sc inputs order sound state r eye (went x b w) s keys rows desc none =
-    went_safe digest shelves sc inputs order x b sound state r w s keys rows desc
-ran_safe digest shelves sc inputs order sound state r eye (lost x b nm loss l told) s keys rows desc none =
-    absurd (none (subst IsMissing (sym told.end) tt))
-ran_safe digest shelves sc inputs order sound state r eye (stack loss l told) s keys rows desc none =
-    absurd (none (subst IsMissing (sym told.end) tt))
+ran_safe digest shelves sc inputs order sound state r eye ran = (ran_sound digest shelves sc inputs order r eye ran, go ran)
+  where
+    go : Ran digest shelves sc inputs order eye r → (b : Board P) → b.keys ≡ sc.keys → HasRows digest b.table order
+        → order.desc ≡ task_desc b.main b.table order.task → (IsMissing (r.end) → ⊥)
+        → ReportSafe digest shelves sc b (out_view order) r.spawned.items (report_end r)
+    go (went x b w) s keys rows desc none = went_safe digest shelves sc inputs order x b sound state r w s keys rows desc
+    go (lost x b nm loss l told) s keys rows desc none = absurd (none (subst IsMissing (sym told.end) tt))
+    go (stack loss l told) s keys rows desc none = absurd (none (subst IsMissing (sym told.end) tt))

@@ -1,5 +1,5 @@
 -- What was put of an end is what lies at its places.
-use Rattle.std.proofs.Common.{refl, subst, sym}
+use Rattle.std.proofs.Common.{arith, refl, subst, sym}
 use Rattle.ciel_log_records.specs.Records.{HowEnded}
 use Rattle.ciel_log.specs.Logging.{EndedSo}
 use Rattle.ciel_log.proofs.Lying.{made_end, stack_end}
@@ -22,4 +22,5 @@ returns-in_ok-put-in-Saved-clause-put c =
 pub returns-in_ok-put_missing-in-Missing-clause-put : goal.returns-in_ok-put_missing-in-Missing-clause-put
 returns-in_ok-put_missing-in-Missing-clause-put c =
     let how = HowEnded.missing c.in-Missing.name c.in-Missing.loss.number in
-    ((how, subst (λ e. EndedSo e how) (sym c.in-Missing.is) refl, c.in_ok-put_missing-in-Missing.ensures), refl)
+    -- the name is told by read_name, and the number of the loss by its type
+    ((how, subst (λ e. EndedSo e how) (sym c.in-Missing.is) refl, (c.read_name.ensures.told, omega arith), c.in_ok-put_missing-in-Missing.ensures), refl)

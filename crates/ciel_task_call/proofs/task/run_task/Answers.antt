@@ -17,6 +17,6 @@ returns-clause-places g c =
     (c.run.ensures.of ∙ c.requires.eye) c.in_ok-report.ensures.ran
 
 pub returns-clause-safely : goal.returns-clause-safely
-returns-clause-safely g c b keys rows desc none =
+returns-clause-safely g c =
     ran_safe (g.N.Namer.digest c.args.shop.now.namer) c.args.shop.now.shelves (job_view c.args.shop.now.job).script (job_view c.args.shop.now.job).inputs
-    c.args.order.now c.requires.sound c.requires.state c.in_ok-report.report c.run.new.eye c.in_ok-report.ensures.ran b keys rows desc none
+    c.args.order.now c.requires.sound c.requires.state c.in_ok-report.report c.run.new.eye c.in_ok-report.ensures.ran

@@ -1,7 +1,11 @@
-use Rattle.std.proofs.Common.{Global, Vec, ap, subst, sym, ◌∙◌}
+use Rattle.std.proofs.Common.{Global, List, Vec, ap, map, subst, sym, ◌∙◌}
 use Rattle.sky_base.specs.JobView.{job_view}
 use Rattle.sky_base.specs.Val.{distinct, refs, same_text}
 use Rattle.sky_base.specs.View.{view}
+use Rattle.sky_base.specs.declared.object.Named.{Named}
+use Rattle.sky_base_law.specs.Sound.{SoundDesc}
+use Rattle.sky_base_law.specs.Tasks.{Each}
+use Rattle.ciel_master_board.specs.Reports.{named_view}
 use Rattle.ciel_task_inputs.specs.Fetched.{TellsFetched}
 use Rattle.ciel_task_order.specs.Orders.{names_in}
 use Rattle.ciel_task_order.specs.declared.block.Held.{Held}
@@ -37,16 +41,19 @@ returns-clause-places g c =
     c.requires.copied.0
 
 pub returns-clause-safely : goal.returns-clause-safely
-returns-clause-safely g c b keys rows desc none =
+returns-clause-safely g c =
     let digest = g.N.Namer.digest c.args.shop.now.namer in
     let shelves = c.args.shop.now.shelves in
     let job = job_view c.args.shop.now.job in
     let x = c.args.executor.now in
     let n = c.args.outputs in
-    let ms = c.in_ok-outputs.outputs in
-    made_safe digest shelves job.script job.inputs c.args.order.now c.requires.sound x c.args.args.now n c.requires.desc _ ms c.args.copied
-    (subst (λ r. AreOutputs digest shelves c.args.order.now.worker x (view c.args.args.now) n r ms.items) c.requires.made c.in_ok-outputs.ensures)
-    c.requires.copied.0 c.report.result c.report.ensures.spawned c.report.ensures.copied c.report.ensures.end b rows desc
+    let ms = c.in_ok-outputs.outputs in (
+      subst (λ (ns : List Named). Each (SoundDesc job.script) (map named_view ns)) (sym c.report.ensures.spawned) tt,
+      λ b keys rows desc none.
+          made_safe digest shelves job.script job.inputs c.args.order.now c.requires.sound x c.args.args.now n c.requires.desc _ ms c.args.copied
+          (subst (λ r. AreOutputs digest shelves c.args.order.now.worker x (view c.args.args.now) n r ms.items) c.requires.made c.in_ok-outputs.ensures)
+          c.requires.copied.0 c.report.result c.report.ensures.spawned c.report.ensures.copied c.report.ensures.end b rows desc,
+    )
 
 pub returns-clause-tells : goal.returns-clause-tells
 returns-clause-tells g c =

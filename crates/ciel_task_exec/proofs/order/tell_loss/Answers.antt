@@ -1,4 +1,8 @@
-use Rattle.std.proofs.Common.{Some, ap, ◌∙◌, subst, sym}
+use Rattle.std.proofs.Common.{List, Some, ap, map, ◌∙◌, subst, sym}
+use Rattle.sky_base.specs.declared.object.Named.{Named}
+use Rattle.sky_base_law.specs.Sound.{SoundDesc}
+use Rattle.sky_base_law.specs.Tasks.{Each}
+use Rattle.ciel_master_board.specs.Reports.{named_view}
 use Rattle.sky_base.specs.JobView.{job_view}
 use Rattle.ciel_store.specs.Seen.{SeatSeen}
 use Rattle.ciel_task_exec.proofs.ReportPromise.{performs_missing}
@@ -15,7 +19,10 @@ returns-clause-performs g c =
     (ap (λ (s : SeatSeen). s.losses) c.show.ensures.0 ∙ c.requires.lost.1)
 
 pub returns-clause-safely : goal.returns-clause-safely
-returns-clause-safely g c b keys rows desc none = absurd (none (subst IsMissing (sym c.report.ensures.end) tt))
+returns-clause-safely g c = (
+  subst (λ (ns : List Named). Each (SoundDesc (job_view c.args.shop.now.job).script) (map named_view ns)) (sym c.report.ensures.spawned) tt,
+  λ b keys rows desc none. absurd (none (subst IsMissing (sym c.report.ensures.end) tt)),
+)
 
 pub returns-clause-seen : goal.returns-clause-seen
 returns-clause-seen g c =

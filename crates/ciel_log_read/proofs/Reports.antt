@@ -11,7 +11,7 @@ use Rattle.ciel_name.specs.Object.{object_bytes}
 use Rattle.ciel_log_read.specs.Recorded as read
 use Rattle.ciel_log_read.specs.Recorded.{IsEnd, IsNamed, IsOutput, IsRecord, IsSpawned}
 use Rattle.ciel_log_records.specs.Records.{HowEnded, block, counted, end_bytes, report_opening, report_record}
-use Rattle.ciel_log_readable.proofs.Sizes.{Short, back_short, counted_short, front_short, name_some, tail_short}
+use Rattle.ciel_log_read.proofs.Sizes.{Short, back_short, counted_short, front_short, name_some, tail_short}
 
 block_some : (bytes : List ℕ) → 0 < length (block bytes)
 block_some bytes =
