@@ -207,8 +207,7 @@ abbrev pub LogTooLong : Words → List ℕ → List Input → List ℕ → ℕ �
 LogTooLong w source inputs path at = (w.resume ≡ Some path) × (at ≡ most) × FitsIn (files_of w) source inputs × IsSource source inputs
 
 -- how a call ends over a script with this source and these inputs, where reading and writing go well: what is too long is refused, bytes
--- that are no script are, and any other call ends with what its job comes to, but for want of memory. A log of its own each of
--- whose records can be read is never refused
+-- that are no script are, and any other call ends with what its job comes to, but for want of memory. A log of its own is never refused
 abbrev pub IsExpected : Words → List ℕ → List Input → Why → Type 0
 IsExpected w source inputs (Why.Syntax kind l c) = SourceFits (files_of w) source × IsSyntaxFault source kind l c
 IsExpected w source inputs (Why.TooLongInput path at) = TooLongIn (files_of w) source inputs path at ⊎ LogTooLong w source inputs path at

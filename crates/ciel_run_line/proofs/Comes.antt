@@ -12,7 +12,7 @@ use Rattle.ciel_words.specs.declared.words.Words.{Words}
 use Rattle.ciel_run_line.specs.Causes.{AnswersSo, CauseOf, HasBadRecord, HasOtherHeader, JobCause, OfRun, OtherEnds, Way, WaySo}
 use Rattle.ciel_run_line.specs.Asked.{AsksFor, AsksOf, NoRun, NoRunOf, ShowsResult, StopsFor}
 use Rattle.ciel_run_line.specs.Line.{FitsIn, OfJobFiles, OfLine, Stands, StandsIn, Surely, SurelyAt, files_of, paths_in}
-use Rattle.ciel_run_line.specs.Resuming.{RefusesLog}
+use Rattle.ciel_run_line.specs.Resuming.{IsBadRecord, RefusesLog}
 use Rattle.ciel_run_line.specs.Runs.{EndsShown, IsDriven, RootEnds, digest_of, plan_of, told_of}
 use Rattle.ciel_run_line.specs.Source.{OfJob, job_of, over_lines}
 use Rattle.ciel_run_log.specs.declared.why.Why.{Why}
@@ -21,6 +21,8 @@ use Rattle.ciel_log_refuses.specs.Refusals.{IsBadAt}
 use Rattle.ciel_run_line.specs.Keeping.{header_of}
 use Rattle.line_kit.specs.Gives.{gives}
 use Rattle.ciel_io.proofs.Joined.{part_whole}
+use Rattle.ciel_run_line.proofs.Written.{bad_record}
+use Rattle.ciel_words.specs.Sound.{LineIsSound}
 
 abbrev Files : Type 0
 Files = List ℕ → Option (List ℕ)
@@ -99,41 +101,42 @@ module _ (content : Files) (w : Words) (risen : Type 0) (J : List Entry) (read :
 
   -- what was refused of the log that was read is so of the file
   module _ (log : Option (List ℕ)) (some : (path bytes : List ℕ) → w.resume ≡ Some path → content path ≡ Some bytes → log ≡ Some bytes) where
-    refused : IsTheJob → (why : Why) → RefusesLog w read job log why → Refused why
-    refused t (Why.BadLog path at) f = λ e source inputs st. (
+    refused : LineIsSound w → IsTheJob → (why : Why) → RefusesLog w read job log why → Refused why
+    refused sound t (Why.BadLog path at) f = λ e source inputs st. (
       (t source inputs st).0,
       of_job source inputs job (λ j. (bytes : List ℕ) → content path ≡ Some bytes
-          → IsBadAt (digest_of w.names) j gives (plan_of w) (header_of w source inputs) bytes at) (t source inputs st).1
-          (λ bytes there. subst (λ (x : List ℕ × List Input). IsBadAt (digest_of w.names) job gives (plan_of w) (header_of w x.0 x.1) bytes at)
-          (λ i. ((t source inputs st).2 i, (t source inputs st).1.1 i)) (f bytes (some path bytes e there))),
+          → IsBadRecord w source inputs j bytes at) (t source inputs st).1
+          (λ bytes there. bad_record content w sound source inputs st (t source inputs st).0 job (t source inputs st).1.0 bytes at
+          (subst (λ (x : List ℕ × List Input). IsBadAt (digest_of w.names) job gives (plan_of w) (header_of w x.0 x.1) bytes at)
+          (λ i. ((t source inputs st).2 i, (t source inputs st).1.1 i)) (f bytes (some path bytes e there)))),
     )
-    refused t (Why.OtherJob path) f = λ e source inputs st. (
+    refused sound t (Why.OtherJob path) f = λ e source inputs st. (
       (t source inputs st).0,
       of_job source inputs job (λ j. (bytes : List ℕ) → content path ≡ Some bytes → BeginsOther bytes (header_of w source inputs))
           (t source inputs st).1
           (λ bytes there. subst (λ (x : List ℕ × List Input). BeginsOther bytes (header_of w x.0 x.1))
           (λ i. ((t source inputs st).2 i, (t source inputs st).1.1 i)) (f bytes (some path bytes e there))),
     )
-    refused t Why.Done f = tt
-    refused t Why.Usage f = tt
-    refused t (Why.Syntax kind line col) f = tt
-    refused t (Why.Fault fault) f = tt
-    refused t (Why.Endless names) f = tt
-    refused t (Why.TooMany held given) f = tt
-    refused t Why.AllLost f = tt
-    refused t (Why.NameClash kept given) f = tt
-    refused t (Why.ReadFault path) f = tt
-    refused t Why.WriteFault f = tt
-    refused t Why.Memory f = tt
-    refused t (Why.TooLongInput path at) f = tt
-    refused t (Why.TooDeepPlain depth) f = tt
-    refused t (Why.KeepFault path) f = tt
-    refused t (Why.LogFull path held) f = tt
+    refused sound t Why.Done f = tt
+    refused sound t Why.Usage f = tt
+    refused sound t (Why.Syntax kind line col) f = tt
+    refused sound t (Why.Fault fault) f = tt
+    refused sound t (Why.Endless names) f = tt
+    refused sound t (Why.TooMany held given) f = tt
+    refused sound t Why.AllLost f = tt
+    refused sound t (Why.NameClash kept given) f = tt
+    refused sound t (Why.ReadFault path) f = tt
+    refused sound t Why.WriteFault f = tt
+    refused sound t Why.Memory f = tt
+    refused sound t (Why.TooLongInput path at) f = tt
+    refused sound t (Why.TooDeepPlain depth) f = tt
+    refused sound t (Why.KeepFault path) f = tt
+    refused sound t (Why.LogFull path held) f = tt
 
-    pub causes : IsTheJob → (r : Result (List ℕ) Why) → WaySo w J r → Sure (AnswersSo w J job r) → IfErr r (RefusesLog w read job log)
+    pub causes : LineIsSound w → IsTheJob → (r : Result (List ℕ) Why) → WaySo w J r → Sure (AnswersSo w J job r) → IfErr r (RefusesLog w read job log)
         → IfErr r (CauseOf content w risen J)
-    causes t (Ok b) v a f = tt
-    causes t (Err why) v a f = cause t why v.way (surely_map content w _ _ (λ x. x.none) a) (refused t why f)
+    causes sound t (Ok b) v a f = tt
+    causes sound t (Err why) v a f = cause t why v.way (surely_map content w _ _ (λ x. x.none) a) (refused sound t why f)
 
   pub bytes : IsTheJob → (r : Result (List ℕ) Why) → Sure (AnswersSo w J job r)
       → IfOk r (λ b. OfRun content w risen J (λ j. s.Means j over_lines (Answered.bytes b)))

@@ -1,5 +1,6 @@
 pub mod Ran
 pub mod Named
+mod Written
 pub mod Comes
 mod ShortHeader
 pub mod Own

@@ -7,10 +7,9 @@ use Rattle.sky_base.specs.See as s
 use Rattle.sky_base.specs.declared.object.TaskId.{TaskId}
 use Rattle.ciel_journal.specs.Entries.{Entry}
 use Rattle.ciel_journal.specs.History.{Plan}
-use Rattle.ciel_log_follows.specs.Begins.{BeginsLog}
 use Rattle.ciel_log_file.specs.Whole.{BeginsOther}
+use Rattle.ciel_log_readable.specs.Readable.{BeginsWritten}
 use Rattle.ciel_log_records.specs.Records.{in_file}
-use Rattle.ciel_log_refuses.proofs.Refusals.{logs_have_no_bad_place}
 use Rattle.ciel_log_read.proofs.Pieces.{blocks_free}
 use Rattle.ciel_run_load.specs.Line.{Input}
 use Rattle.ciel_run_load.specs.Loading.{IsOf}
@@ -23,12 +22,14 @@ use Rattle.ciel_run_line.specs.Resuming.{IsOwnLog, OnwardTold, OwnIfRead, Replay
 use Rattle.ciel_run_line.specs.Runs.{digest_of, plan_of}
 use Rattle.ciel_run_line.specs.Source.{OfJob, job_of}
 use Rattle.ciel_run_line.proofs.Comes.{of_job}
+use Rattle.ciel_run_line.proofs.Written.{none_bad, own_log}
+use Rattle.ciel_words.specs.Sound.{LineIsSound}
 use Rattle.ciel_words.specs.declared.words.Words.{Words}
 use Rattle.line_kit.specs.Gives.{gives}
 
 -- a record that stands whole at the beginning of such a log is the header: no block begins another one
 pub not_other : (digest : List ℕ → List ℕ) (job : s.Job) (gives : Gives) (p : Plan) (header bytes : List ℕ)
-    → BeginsLog digest job gives p header bytes → BeginsOther bytes header → ⊥
+    → BeginsWritten digest job gives p header bytes → BeginsOther bytes header → ⊥
 not_other digest job gives p header bytes own other =
     let first = other.0 in
     let behind = drop other.1 bytes in
@@ -42,12 +43,11 @@ pub no_bad_record : (content : List ℕ → Option (List ℕ)) (w : Words) (path
     → (source : List ℕ) (inputs : List Input) → Stands content w source inputs → ⊥
 no_bad_record content w path at e bad source inputs st =
     let x = bad source inputs st.there in
-    let own = st.own path e x.0 x.1.0 x.1.1 in
-    logs_have_no_bad_place (digest_of w.names) (job_of x.1.0 inputs) gives (plan_of w) (header_of w source inputs) own.0 at (x.1.2 own.0 own.1) own.2
+    let own = st.own path e x.0 x.1.0 x.1.1 in none_bad w source inputs (job_of x.1.0 inputs) own.0 at (x.1.2 own.0 own.1) own.2
 
 -- ---- the log that was read, where one was
 
-module _ (content : List ℕ → Option (List ℕ)) (w : Words) (read : List ℕ) (job : s.Job) (log : Option (List ℕ))
+module _ (content : List ℕ → Option (List ℕ)) (w : Words) (sound : LineIsSound w) (read : List ℕ) (job : s.Job) (log : Option (List ℕ))
     (t : OfJobFiles content w (λ source inputs. FitsIn (files_of w) source inputs × IsOf source inputs job × (read ≡ source)))
     (some : is_some log ≡ is_some w.resume)
     (found : IfSome log (λ b. IfSome w.resume (λ path. IfSome (content path) (λ file. b ≡ file)))) where
@@ -83,7 +83,8 @@ module _ (content : List ℕ → Option (List ℕ)) (w : Words) (read : List ℕ
           let o = st.own path e here.0 job.script here.1.0 in
           let same : bytes ≡ o.0 = same_bytes path bytes o.0 e l o.1 in
           subst (λ (x : List ℕ × List Input × List ℕ). IsOwnLog w x.0 x.1 (job_of job.script x.1) x.2)
-          (λ i. (sym here.2 i, sym here.1.1 i, sym same i)) o.2
+          (λ i. (sym here.2 i, sym here.1.1 i, sym same i))
+          (own_log content w sound source inputs st.there here.0 (job_of job.script inputs) here.1.0 o.0 o.2)
 
   -- ---- what gates tell
 

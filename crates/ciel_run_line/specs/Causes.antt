@@ -10,7 +10,6 @@ use Rattle.ciel_journal.specs.Entries.{Entry}
 use Rattle.ciel_journal.specs.Job.{Digest}
 use Rattle.ciel_journal.specs.Journals.{CircleOf, DrivenJournal}
 use Rattle.ciel_log_file.specs.Whole.{BeginsOther}
-use Rattle.ciel_log_refuses.specs.Refusals.{IsBadAt}
 use Rattle.ciel_run_load.specs.Found.{Holds, IsOver, IsTooLong, PassesIfTold}
 use Rattle.ciel_run_load.specs.Line as files
 use Rattle.ciel_run_load.specs.Line.{Input}
@@ -20,10 +19,10 @@ use Rattle.ciel_words.specs.declared.words.Words.{Words}
 use Rattle.sky_plain.specs.Needs.{Chain, MakesMany}
 use Rattle.ciel_run_line.specs.Keeping.{header_of}
 use Rattle.ciel_run_line.specs.Line.{FitsIn, OfJobFiles, OfLine, OfSource, SourceFits, Surely, files_of, paths_of}
-use Rattle.ciel_run_line.specs.Runs.{RootEnds, digest_of, log_path, plan_of, run_of, told_of}
+use Rattle.ciel_run_line.specs.Resuming.{IsBadRecord}
+use Rattle.ciel_run_line.specs.Runs.{RootEnds, log_path, plan_of, run_of, told_of}
 use Rattle.ciel_run_line.specs.Source.{IsSource, OfJob, over_lines}
 use Rattle.ciel_log.specs.Logging.{most}
-use Rattle.line_kit.specs.Gives.{gives}
 use Rattle.ciel_run_log.specs.declared.why.Why.{Why}
 
 -- ---- of a job that ran, whose journal is J
@@ -122,7 +121,7 @@ module _ (content : List ℕ → Option (List ℕ)) (w : Words) where
   -- begin no log of a run of this line
   abbrev pub HasBadRecord : List ℕ → ℕ → Type 0
   HasBadRecord path at =
-      OfLog path (λ source inputs job bytes. IsBadAt (digest_of w.names) job gives (plan_of w) (header_of w source inputs) bytes at)
+      OfLog path (λ source inputs job bytes. IsBadRecord w source inputs job bytes at)
 
   -- its first record is whole and isn't the header of this line
   abbrev pub HasOtherHeader : List ℕ → Type 0

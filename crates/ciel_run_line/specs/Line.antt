@@ -6,7 +6,7 @@ use Rattle.ciel_run_load.specs.Found.{Fits, Holds, limit}
 use Rattle.ciel_run_load.specs.Generated.{generated_inputs, generator}
 use Rattle.ciel_run_load.specs.Line as files
 use Rattle.ciel_run_load.specs.Line.{Input, keys_of}
-use Rattle.ciel_run_line.specs.Resuming.{IsOwnLog}
+use Rattle.ciel_run_line.specs.Resuming.{IsWrittenLog}
 use Rattle.ciel_run_line.specs.Runs.{log_path}
 use Rattle.ciel_run_line.specs.Source.{job_of}
 use Rattle.ciel_words.specs.Line.{line_of}
@@ -79,7 +79,7 @@ module _ (content : List ℕ → Option (List ℕ)) (w : Words) where
   abbrev pub LogIsOwn : List ℕ → List Input → Type 0
   LogIsOwn source inputs =
       (path : List ℕ) → w.resume ≡ Some path → FitsIn (files_of w) source inputs → (script : Script) → IsScript source (keys_of inputs) script
-      → (bytes : List ℕ) × (content path ≡ Some bytes) × IsOwnLog w source inputs (job_of script inputs) bytes
+      → (bytes : List ℕ) × (content path ≡ Some bytes) × IsWrittenLog w source inputs (job_of script inputs) bytes
 
   -- files tell the script and the inputs of this line, and the log that it goes on from is its own
   pub record Stands (source : List ℕ) (inputs : List Input) : Type 0 where

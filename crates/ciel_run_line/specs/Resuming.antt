@@ -1,10 +1,12 @@
 -- The log that a line goes on from.
-use Rattle.std.specs.Prelude.{◌≡◌, ◌⊎◌, ℕ, List, [], Option, Some}
+use Rattle.std.specs.Prelude.{◌≡◌, ◌⊎◌, ℕ, List, [], Option, Some, ◌∷◌, take}
 use Rattle.sky_base.specs.See as s
 use Rattle.sky_base.specs.declared.object.TaskId.{TaskId}
 use Rattle.ciel_journal.specs.Entries.{Entry}
 use Rattle.ciel_log_follows.specs.Begins.{BeginsLog}
-use Rattle.ciel_log_file.specs.Whole.{BeginsOther}
+use Rattle.ciel_log_file.specs.Whole.{BeginsOther, RecordsTo}
+use Rattle.ciel_log_read.specs.File.{RecordAt}
+use Rattle.ciel_log_readable.specs.Readable.{BeginsWritten}
 use Rattle.ciel_log_refuses.specs.Refusals.{IsBadAt}
 use Rattle.ciel_run_load.specs.Line.{Input}
 use Rattle.ciel_run_log.specs.declared.why.Why.{Why}
@@ -17,6 +19,10 @@ use Rattle.line_kit.specs.Gives.{gives}
 
 module _ (w : Words) (source : List ℕ) (inputs : List Input) (job : s.Job) where
   -- the bytes begin a log of a run of this job by this line
+  abbrev pub IsWrittenLog : List ℕ → Type 0
+  IsWrittenLog bytes = BeginsWritten (digest_of w.names) job gives (plan_of w) (header_of w source inputs) bytes
+
+  -- so they do, and each of its records can be read
   abbrev pub IsOwnLog : List ℕ → Type 0
   IsOwnLog bytes = BeginsLog (digest_of w.names) job gives (plan_of w) (header_of w source inputs) bytes
 
@@ -27,6 +33,16 @@ module _ (w : Words) (source : List ℕ) (inputs : List Input) (job : s.Job) whe
   -- the log is of this job: what an answer of the job asks of the log that was read, where one was
   abbrev pub OwnIfRead : Option (List ℕ) → Type 0
   OwnIfRead log = (bytes : List ℕ) → log ≡ Some bytes → IsOwnLog bytes
+
+-- behind the header of this line and other records a whole record begins at this place, and the records up to and with that one begin no log
+-- of a run of this job by this line
+pub record IsBadRecord (w : Words) (source : List ℕ) (inputs : List Input) (job : s.Job) (log : List ℕ) (at : ℕ) : Type 0 where
+  pub records : List (List ℕ)
+  pub stand : RecordsTo log 0 (header_of w source inputs ∷ records) at
+  pub record_bytes : List ℕ
+  pub next : ℕ
+  pub here : RecordAt log at record_bytes next
+  pub cause : IsWrittenLog w source inputs job (take next log) → ⊥
 
 -- why the log wasn't gone on from: the record there is a bad one; or its header is another one
 abbrev pub RefusesLog : Words → (source : List ℕ) → s.Job → Option (List ℕ) → Why → Type 0

@@ -52,11 +52,11 @@ returns-in-Ok-log_read-clause-none g c =
     let found = subst (λ (k : List ℕ → Option (List ℕ)). IfSome c.in-Ok-log_read.log (λ b. IfSome w.resume (λ path. IfSome (k path) (λ file. b ≡ file))))
     c.job_of.ensures.kept c.in-Ok-log_read.ensures.found in
     let sure = surely_of content w (AnswersSo w J job r)
-    (λ e. c.answer.ensures.answers (own_alone content w read job c.in-Ok-log_read.log c.in-Ok.ensures.job c.in-Ok-log_read.ensures.some found e))
+    (λ e. c.answer.ensures.answers (own_alone content w c.requires.line read job c.in-Ok-log_read.log c.in-Ok.ensures.job c.in-Ok-log_read.ensures.some found e))
     (λ source inputs st. c.answer.ensures.answers
-    (own_onward content w read job c.in-Ok-log_read.log c.in-Ok.ensures.job c.in-Ok-log_read.ensures.some found source inputs st)) in
+    (own_onward content w c.requires.line read job c.in-Ok-log_read.log c.in-Ok.ensures.job c.in-Ok-log_read.ensures.some found source inputs st)) in
     causes content w risen J read job c.in-Ok-log_read.log
-    (log_is content w read job c.in-Ok-log_read.log c.in-Ok.ensures.job c.in-Ok-log_read.ensures.some found) c.in-Ok.ensures.job r
+    (log_is content w c.requires.line read job c.in-Ok-log_read.log c.in-Ok.ensures.job c.in-Ok-log_read.ensures.some found) c.requires.line c.in-Ok.ensures.job r
     c.answer.ensures.ways sure c.answer.ensures.refuses
 
 pub returns-in-Ok-log_read-clause-bytes : goal.returns-in-Ok-log_read-clause-bytes
@@ -71,9 +71,9 @@ returns-in-Ok-log_read-clause-bytes g c =
     let found = subst (λ (k : List ℕ → Option (List ℕ)). IfSome c.in-Ok-log_read.log (λ b. IfSome w.resume (λ path. IfSome (k path) (λ file. b ≡ file))))
     c.job_of.ensures.kept c.in-Ok-log_read.ensures.found in
     let sure = surely_of content w (AnswersSo w J job r)
-    (λ e. c.answer.ensures.answers (own_alone content w read job c.in-Ok-log_read.log c.in-Ok.ensures.job c.in-Ok-log_read.ensures.some found e))
+    (λ e. c.answer.ensures.answers (own_alone content w c.requires.line read job c.in-Ok-log_read.log c.in-Ok.ensures.job c.in-Ok-log_read.ensures.some found e))
     (λ source inputs st. c.answer.ensures.answers
-    (own_onward content w read job c.in-Ok-log_read.log c.in-Ok.ensures.job c.in-Ok-log_read.ensures.some found source inputs st)) in
+    (own_onward content w c.requires.line read job c.in-Ok-log_read.log c.in-Ok.ensures.job c.in-Ok-log_read.ensures.some found source inputs st)) in
     bytes content w risen J read job c.in-Ok.ensures.job r sure
 
 pub returns-in-Ok-log_read-clause-driven : goal.returns-in-Ok-log_read-clause-driven
@@ -88,9 +88,9 @@ returns-in-Ok-log_read-clause-driven g c =
     let found = subst (λ (k : List ℕ → Option (List ℕ)). IfSome c.in-Ok-log_read.log (λ b. IfSome w.resume (λ path. IfSome (k path) (λ file. b ≡ file))))
     c.job_of.ensures.kept c.in-Ok-log_read.ensures.found in
     let sure = surely_of content w (AnswersSo w J job r)
-    (λ e. c.answer.ensures.answers (own_alone content w read job c.in-Ok-log_read.log c.in-Ok.ensures.job c.in-Ok-log_read.ensures.some found e))
+    (λ e. c.answer.ensures.answers (own_alone content w c.requires.line read job c.in-Ok-log_read.log c.in-Ok.ensures.job c.in-Ok-log_read.ensures.some found e))
     (λ source inputs st. c.answer.ensures.answers
-    (own_onward content w read job c.in-Ok-log_read.log c.in-Ok.ensures.job c.in-Ok-log_read.ensures.some found source inputs st)) in
+    (own_onward content w c.requires.line read job c.in-Ok-log_read.log c.in-Ok.ensures.job c.in-Ok-log_read.ensures.some found source inputs st)) in
     driven content w risen J read job c.in-Ok.ensures.job r sure
 
 pub returns-in-Ok-log_read-clause-root : goal.returns-in-Ok-log_read-clause-root
@@ -105,9 +105,9 @@ returns-in-Ok-log_read-clause-root g c =
     let found = subst (λ (k : List ℕ → Option (List ℕ)). IfSome c.in-Ok-log_read.log (λ b. IfSome w.resume (λ path. IfSome (k path) (λ file. b ≡ file))))
     c.job_of.ensures.kept c.in-Ok-log_read.ensures.found in
     let sure = surely_of content w (AnswersSo w J job r)
-    (λ e. c.answer.ensures.answers (own_alone content w read job c.in-Ok-log_read.log c.in-Ok.ensures.job c.in-Ok-log_read.ensures.some found e))
+    (λ e. c.answer.ensures.answers (own_alone content w c.requires.line read job c.in-Ok-log_read.log c.in-Ok.ensures.job c.in-Ok-log_read.ensures.some found e))
     (λ source inputs st. c.answer.ensures.answers
-    (own_onward content w read job c.in-Ok-log_read.log c.in-Ok.ensures.job c.in-Ok-log_read.ensures.some found source inputs st)) in
+    (own_onward content w c.requires.line read job c.in-Ok-log_read.log c.in-Ok.ensures.job c.in-Ok-log_read.ensures.some found source inputs st)) in
     root content w risen J read job c.in-Ok.ensures.job r c.answer.ensures.ways sure
 
 pub returns-in-Ok-log_read-clause-of_other : goal.returns-in-Ok-log_read-clause-of_other
@@ -121,7 +121,7 @@ returns-in-Ok-log_read-clause-of_other g c = λ path log e there short source in
     let here = c.in-Ok.ensures.job source inputs st in
     other_ends content w (HasRisen (g.F.Files.faults c.args.files.now) (g.F.Files.faults c.log_read.new.files)) path c.answer.result.result
     (c.answer.ensures.of_other path log e
-    (log_is content w read job c.in-Ok-log_read.log c.in-Ok.ensures.job c.in-Ok-log_read.ensures.some found path log e there)
+    (log_is content w c.requires.line read job c.in-Ok-log_read.log c.in-Ok.ensures.job c.in-Ok-log_read.ensures.some found path log e there)
     (subst (λ (x : List ℕ × List Input). BeginsOther log (header_of w x.0 x.1)) (λ i. (sym here.2 i, sym here.1.1 i)) other))
 
 pub returns-in-Ok-log_read-clause-empty : goal.returns-in-Ok-log_read-clause-empty
@@ -137,7 +137,7 @@ returns-in-Ok-log_read-clause-told g c = λ some.
     let job = job_view c.in-Ok.loaded.job in
     let found = subst (λ (k : List ℕ → Option (List ℕ)). IfSome c.in-Ok-log_read.log (λ b. IfSome w.resume (λ path. IfSome (k path) (λ file. b ≡ file))))
     c.job_of.ensures.kept c.in-Ok-log_read.ensures.found in
-    gates_tell content w read job c.in-Ok-log_read.log c.in-Ok.ensures.job c.in-Ok-log_read.ensures.some found J
+    gates_tell content w c.requires.line read job c.in-Ok-log_read.log c.in-Ok.ensures.job c.in-Ok-log_read.ensures.some found J
     (told_of g.G.Gate.entered w.workers c.args.gates.now.items) (told_of g.G.Gate.entered w.workers c.answer.new.gates.items)
     (c.answer.ensures.told some)
 
@@ -169,7 +169,7 @@ returns-in-Ok-log_read-clause-logged g c =
     logged content w risen J read job
     (λ source inputs. LogTold w source inputs J (g.D.Keep.files c.answer.new.keep) c.answer.result.state c.answer.result.result) c.in-Ok.ensures.job
     (λ source inputs st. c.answer.ensures.logged
-    (own_onward content w read job c.in-Ok-log_read.log c.in-Ok.ensures.job c.in-Ok-log_read.ensures.some found source inputs st))
+    (own_onward content w c.requires.line read job c.in-Ok-log_read.log c.in-Ok.ensures.job c.in-Ok-log_read.ensures.some found source inputs st))
 
 -- ---- the log wasn't read
 
