@@ -1,5 +1,5 @@
 -- An output that is at hand whole.
-use Rattle.std.proofs.Common.{◌≡◌, ℕ, Bool, true, false, cond, List, [], ◌∷◌, ◌++◌, Option, Some, None, Ok, Err, refl, sym, ap, subst, ◌∙◌, append-nil}
+use Rattle.std.proofs.Common.{◌≡◌, ℕ, Bool, true, false, cond, List, [], ◌∷◌, ◌++◌, Option, Some, None, Ok, Err, refl, sym, ap, subst, ◌∙◌}
 use Rattle.sky_base.specs.Val.{Pairs, Val, null, truth, num, text, list, dict, fun, ref}
 use Rattle.sky_base.specs.View.{view}
 use Rattle.sky_base.specs.declared.fault.FaultKind.{FaultKind}
@@ -13,12 +13,13 @@ use Rattle.line_flow.specs.Stands.{Stands}
 use Rattle.line_flow.specs.Told.{Told, opened}
 use Rattle.line_flow.specs.declared.flow.Flow.{Flow}
 use Rattle.line_flow.proofs.StandsLaw.{refused_gives}
-use Rattle.ciel_flow_pieces.specs.Leads.{IsCall, IsOf, at}
-use Rattle.ciel_flow_pieces.specs.Pieces.{LawOf, parts}
+use Rattle.ciel_flow_pieces.specs.Leads.{IsCall, IsFirstOf, IsOf, at}
+use Rattle.ciel_flow_pieces.specs.Pieces.{AllParts, AllShort, LawOf, parts}
 use Rattle.ciel_flow_pieces.specs.Source.{hands_out, output, output_by}
-use Rattle.ciel_flow_pieces.specs.declared.piece.Piece.TheVariants.{Part, End}
+use Rattle.ciel_flow_pieces.specs.declared.piece.Piece.{Piece}
+use Rattle.ciel_flow_pieces.specs.declared.piece.Piece.TheVariants.{End}
 use Rattle.ciel_flow_pieces.specs.declared.piece.Source.{Source}
-use Rattle.ciel_flow_pieces.proofs.Leading.{aside_is, law_end, law_part, whole_of}
+use Rattle.ciel_flow_pieces.proofs.Leading.{aside_is, put_last}
 use Rattle.ciel_flow_pieces.proofs.Whole.{gives_whole}
 
 keys_fit : (keys fit : Bool) → ◌≡◌ {A = Option FaultKind} (cond keys (cond fit None (Some BadKind)) (Some NoKey)) None
@@ -57,11 +58,12 @@ no_refusal : (r : Option FaultKind) (answer : Answer) (outputs : List (List ℕ)
 no_refusal None answer outputs bad good = refl
 no_refusal (Some k) answer outputs bad good = let clash : Err k ≡ Ok outputs = sym (bad k refl) ∙ good in absurd cc
 
--- one part with the whole output may be put, and then the end
-pub put_whole : (s : Source) (inputs outputs : List (List ℕ)) (b : List ℕ) → s.inputs ≡ Ok inputs → hands_out (executor_of s.executor) ≡ true
-    → gives s.executor (slots (view s.args)) inputs s.outputs ≡ Ok outputs → b ≡ at outputs s.index
-    → LawOf s (Part b ∷ []) × LawOf s (Part b ∷ End ∷ [])
-put_whole s inputs outputs b given hands answer is =
+-- the whole output may be put, and then the end
+pub put_whole : (s : Source) (inputs outputs : List (List ℕ)) (b : List ℕ) (xs : List Piece) → s.inputs ≡ Ok inputs
+    → hands_out (executor_of s.executor) ≡ true → gives s.executor (slots (view s.args)) inputs s.outputs ≡ Ok outputs → b ≡ at outputs s.index
+    → xs ≡ [] → IsFirstOf record { source = s; pieces = xs } b
+    × ((ys : List Piece) → AllParts ys → AllShort ys → parts ys ≡ parts xs ++ b → LawOf s (ys ++ End ∷ []))
+put_whole s inputs outputs b xs given hands answer is fresh =
     let x = s.executor in
     let a = slots (view s.args) in
     let n = s.outputs in
@@ -70,14 +72,10 @@ put_whole s inputs outputs b given hands answer is =
     let t : Told = record { executor = x; args = a; outputs = n; fed = inputs; last = 0; drained = [] } in
     let of : IsOf s t inputs = record { executor = refl; args = refl; outputs = refl; given = given; right = right } in
     let early = gives_whole x a n r.0 r.1 inputs outputs r.2 hands answer in
-    let whole : b ≡ whole_of s inputs = is ∙ ap (λ (ys : List (List ℕ)). at ys s.index) early in
-    let one : parts (Part b ∷ []) ≡ b = append-nil b in
     let out : output s ≡ Ok (at outputs s.index) =
     ap (λ r. output_by x s.index r (λ ins. gives x a ins n)) given ∙ ap (λ r. output_by x s.index (Ok inputs) (λ ins. r)) answer in
-    let aside = aside_is s t inputs of in (
-      law_part s [] b (whole_of s inputs) [] tt aside (append-nil b ∙ whole),
-      law_end s (Part b ∷ []) (whole_of s inputs) tt aside (one ∙ whole) (out ∙ ap (λ (r : List ℕ). Ok r) (sym (one ∙ is))),
-    )
+    put_last s xs b _ (aside_is s t inputs of) (out ∙ ap (λ (ys : List (List ℕ)). Ok (at ys s.index)) early)
+    (ap (λ (ps : List Piece). parts ps ++ b) fresh ∙ is ∙ ap (λ (ys : List (List ℕ)). at ys s.index) early)
 
 -- ---- a call by what it is asked
 

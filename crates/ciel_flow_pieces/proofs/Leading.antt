@@ -1,5 +1,5 @@
 -- A piece more of a producer's output.
-use Rattle.std.proofs.Common.{◌≡◌, ℕ, zero, suc, ◌+◌, List, [], ◌∷◌, ◌++◌, length, refl, sym, ap, ap₂, subst, ◌∙◌, arith, append_assoc, append-nil}
+use Rattle.std.proofs.Common.{◌≡◌, ◌≤◌, ℕ, zero, suc, ◌+◌, List, [], ◌∷◌, ◌++◌, length, refl, sym, ap, ap₂, subst, ◌∙◌, arith, append_assoc, append-nil}
 use Rattle.std.specs.Prelude.{None, Ok, Option, Some, slice_index_or}
 use Rattle.sky_base.specs.View.{view}
 use Rattle.sky_base_exec.specs.Perform.{slots}
@@ -8,14 +8,14 @@ use Rattle.line_kit.specs.Table.{executor_of}
 use Rattle.line_flow.specs.Drained.{Follows, each_joined}
 use Rattle.line_flow.specs.Refused.{refusal}
 use Rattle.line_flow.specs.Told.{CanFeed, Told, drained_more, early, early_by, fed_more, grow, pairs_in, settled_lines}
-use Rattle.ciel_flow_pieces.specs.Leads.{Begins, IsOf, JoinedEach, Leads, at}
-use Rattle.ciel_flow_pieces.specs.Pieces.{AllParts, Ends, LawOf, OnlyLast, PartsFit, StreamSeen, parts}
+use Rattle.ciel_flow_pieces.specs.Leads.{Begins, IsFirstOf, IsOf, JoinedEach, Leads, at}
+use Rattle.ciel_flow_pieces.specs.Pieces.{AllParts, AllShort, Ends, LawOf, OnlyLast, PartsFit, StreamSeen, parts}
 use Rattle.ciel_flow_pieces.specs.Source.{aside, aside_by, output}
 use Rattle.ciel_flow_pieces.specs.declared.piece.Piece.{Piece}
 use Rattle.ciel_flow_pieces.specs.declared.piece.Piece.TheVariants.{Part, End, Broken}
 use Rattle.ciel_flow_pieces.specs.declared.piece.Source.{Source}
 use Rattle.ciel_flow_pieces.proofs.Early.{early_first, settled_first}
-use Rattle.ciel_flow_pieces.proofs.Pieces.{all_more, parts_end, parts_more}
+use Rattle.ciel_flow_pieces.proofs.Pieces.{all_more, parts_end, parts_more, short-append}
 
 -- ---- what may be put
 
@@ -33,21 +33,43 @@ no_end (Part p ∷ xs) h e = no_end xs h e
 no_end (End ∷ xs) h e = h
 no_end (Broken ∷ xs) h e = h
 
-pub law_part : (s : Source) (xs : List Piece) (b whole rest : List ℕ) → AllParts xs → aside s ≡ Some whole → (parts xs ++ b) ++ rest ≡ whole
-    → LawOf s (xs ++ Part b ∷ [])
-law_part s xs b whole rest h a e = record {
+pub law_part : (s : Source) (xs : List Piece) (b rest : List ℕ) → AllParts xs → AllShort xs → length b ≤ 65536
+    → aside s ≡ Some ((parts xs ++ b) ++ rest) → LawOf s (xs ++ Part b ∷ [])
+law_part s xs b rest h short few a = record {
   last = all_last xs (Part b) h;
-  first = subst (λ o. PartsFit o (xs ++ Part b ∷ [])) (sym a) (rest, ap (λ (r : List ℕ). r ++ rest) (parts_more xs b) ∙ e);
+  short = short-append xs (Part b ∷ []) short (few, tt);
+  first = subst (λ o. PartsFit o (xs ++ Part b ∷ [])) (sym a) (rest, ap (λ (r : List ℕ). r ++ rest) (parts_more xs b));
   whole = λ ends. absurd (no_end (xs ++ Part b ∷ []) (all_more xs b h) ends);
 }
 
-pub law_end : (s : Source) (xs : List Piece) (whole : List ℕ) → AllParts xs → aside s ≡ Some whole → parts xs ≡ whole → output s ≡ Ok (parts xs)
-    → LawOf s (xs ++ End ∷ [])
-law_end s xs whole h a e o = record {
+pub law_end : (s : Source) (xs : List Piece) (whole : List ℕ) → AllParts xs → AllShort xs → aside s ≡ Some whole → parts xs ≡ whole
+    → output s ≡ Ok (parts xs) → LawOf s (xs ++ End ∷ [])
+law_end s xs whole h short a e o = record {
   last = all_last xs End h;
+  short = short-append xs (End ∷ []) short (tt, tt);
   first = subst (λ x. PartsFit x (xs ++ End ∷ [])) (sym a) ([], append-nil (parts (xs ++ End ∷ [])) ∙ parts_end xs ∙ e);
   whole = λ ends. o ∙ ap (λ (b : List ℕ). Ok b) (sym (parts_end xs));
 }
+
+-- where some of these bytes were put, the next of them go on
+pub first_still : (p q : StreamSeen) (bytes left b more : List ℕ) → IsFirstOf p bytes → q.source ≡ p.source → parts q.pieces ++ left ≡ parts p.pieces ++ bytes
+    → b ++ more ≡ left → IsFirstOf q b
+first_still p q bytes left b more (rest, e) same on cut = (
+  more ++ rest,
+  ap aside same ∙ e
+      ∙ ap (λ (r : List ℕ). Some (r ++ rest))
+      (sym on ∙ ap (λ (r : List ℕ). parts q.pieces ++ r) (sym cut) ∙ sym (append_assoc (parts q.pieces) b more))
+      ∙ ap (λ (r : List ℕ). Some r) (append_assoc (parts q.pieces ++ b) more rest),
+)
+
+-- bytes with which the output is whole may be put, and then the end
+pub put_last : (s : Source) (xs : List Piece) (b whole : List ℕ) → aside s ≡ Some whole → output s ≡ Ok whole → parts xs ++ b ≡ whole
+    → IsFirstOf record { source = s; pieces = xs } b
+    × ((ys : List Piece) → AllParts ys → AllShort ys → parts ys ≡ parts xs ++ b → LawOf s (ys ++ End ∷ []))
+put_last s xs b whole a o e = (
+  ([], a ∙ ap (λ (r : List ℕ). Some r) (sym (append-nil (parts xs ++ b) ∙ e))),
+  λ ys all short put. law_end s ys whole all short a (put ∙ e) (o ∙ ap (λ (r : List ℕ). Ok r) (sym (put ∙ e))),
+)
 
 -- ---- what is whole
 
@@ -108,10 +130,10 @@ first_part s t inputs input piece of (q, later, e) =
     )
 
 pub put_next : (s : Source) (t : Told) (inputs : List (List ℕ)) (input : ℕ) (piece b : List ℕ) (xs : List Piece) (more : List (List ℕ)) → IsOf s t inputs
-    → Begins t input piece inputs → AllParts xs → parts xs ≡ at t.drained s.index → Follows t.drained more (early (fed_more t input piece))
-    → b ≡ at more s.index → LawOf s (xs ++ Part b ∷ [])
-put_next s t inputs input piece b xs more of begins all same f is =
+    → Begins t input piece inputs → parts xs ≡ at t.drained s.index → Follows t.drained more (early (fed_more t input piece)) → b ≡ at more s.index
+    → IsFirstOf record { source = s; pieces = xs } b
+put_next s t inputs input piece b xs more of begins same f is =
     let first = first_part s t inputs input piece of begins in
     let next : parts xs ++ b ≡ at (early (fed_more t input piece)) s.index =
     ap₂ (λ (x y : List ℕ). x ++ y) same is ∙ sym (drained_next (fed_more t input piece) more s.index f) in
-    law_part s xs b (whole_of s inputs) first.0 all (aside_is s t inputs of) (ap (λ (r : List ℕ). r ++ first.0) next ∙ first.1)
+    (first.0, aside_is s t inputs of ∙ ap (λ (r : List ℕ). Some r) (sym (ap (λ (r : List ℕ). r ++ first.0) next ∙ first.1)))

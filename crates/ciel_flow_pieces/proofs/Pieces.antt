@@ -1,12 +1,13 @@
 -- Each step keeps the rule of a stream.
-use Rattle.std.proofs.Common.{◌≡◌, ℕ, zero, suc, List, [], ◌∷◌, ◌++◌, length, set, sym, refl, ap, ◌∙◌, subst, append_assoc, append-nil}
+use Rattle.std.proofs.Common.{◌≡◌, ◌≤◌, ◌*◌, ℕ, zero, suc, List, [], ◌∷◌, ◌++◌, length, set, sym, refl, ap, ◌∙◌, subst, append_assoc, append-nil}
+use Rattle.std.proofs.Common.{arith, length-append}
 use Rattle.std.specs.Prelude.{Option, Some, None, Ok}
 use mathlib.Core.Option.{some, some-injective, some-ne-none}
 use lib.ListN.{get_elem?}
 use Rattle.crossbeam_channel.specs.Fifo.{Pushes, Pops, Forks}
 use Rattle.ciel_flow_pieces.specs.Source.{aside, output}
-use Rattle.ciel_flow_pieces.specs.Pieces.{AllParts, Both, Ends, HasPut, HasTaken, IsNone, LawOf, MayPut, MayTake, NoParts, OnlyLast, PartsFit, Stands}
-use Rattle.ciel_flow_pieces.specs.Pieces.{alone, both, follower, opened, parts, producer}
+use Rattle.ciel_flow_pieces.specs.Pieces.{AllParts, AllShort, Both, Ends, FewLieThere, HasPut, HasTaken, IsNone, LawOf, MayPut, MayTake, NoParts}
+use Rattle.ciel_flow_pieces.specs.Pieces.{OnlyLast, PartsFit, Stands, alone, both, follower, opened, parts, producer}
 use Rattle.ciel_flow_pieces.specs.declared.piece.Knows.{Knows}
 use Rattle.ciel_flow_pieces.specs.declared.piece.Piece.{Piece}
 use Rattle.ciel_flow_pieces.specs.declared.piece.Piece.TheVariants.{Part, End, Broken}
@@ -36,6 +37,10 @@ last_front (Part p ∷ xs) ys h = last_front xs ys h
 last_front (End ∷ xs) ys h = none_front xs ys h
 last_front (Broken ∷ xs) ys h = none_front xs ys h
 
+short_front : (xs ys : List Piece) → AllShort (xs ++ ys) → AllShort xs
+short_front [] ys h = tt
+short_front (x ∷ xs) ys h = (h.0, short_front xs ys h.1)
+
 no_front : (xs ys : List Piece) → NoParts (xs ++ ys) → NoParts xs
 no_front [] ys h = tt
 no_front (Part p ∷ xs) ys h = absurd h
@@ -63,6 +68,7 @@ ends_more (Broken ∷ xs) ys e = ends_more xs ys e
 pub law_front : (s : Source) (xs ys : List Piece) → LawOf s (xs ++ ys) → LawOf s xs
 law_front s xs ys h = record {
   last = last_front xs ys h.last;
+  short = short_front xs ys h.short;
   first = fit_front (aside s) xs ys h.first;
   whole = λ e. h.whole (ends_more xs ys e) ∙ ap (λ (zs : List Piece). Ok (parts (xs ++ zs))) (ends_back xs ys e h.last)
       ∙ ap (λ (zs : List Piece). Ok (parts zs)) (append-nil xs);
@@ -73,7 +79,7 @@ no_fit None = tt
 no_fit (Some whole) = (whole, refl)
 
 pub law_nothing : (s : Source) → LawOf s []
-law_nothing s = record { last = tt; first = no_fit (aside s); whole = λ e. absurd e }
+law_nothing s = record { last = tt; short = tt; first = no_fit (aside s); whole = λ e. absurd e }
 
 -- ---- the passes
 
@@ -178,6 +184,10 @@ all_more (Part p ∷ xs) b h = all_more xs b h
 all_more (End ∷ xs) b h = absurd h
 all_more (Broken ∷ xs) b h = absurd h
 
+pub short-append : (xs ys : List Piece) → AllShort xs → AllShort ys → AllShort (xs ++ ys)
+short-append [] ys h more = more
+short-append (x ∷ xs) ys h more = (h.0, short-append xs ys h.1 more)
+
 pub parts_more : (xs : List Piece) (b : List ℕ) → parts (xs ++ Part b ∷ []) ≡ parts xs ++ b
 parts_more xs b = parts-append xs (Part b ∷ []) ∙ ap (λ (r : List ℕ). parts xs ++ r) (append-nil b)
 
@@ -193,6 +203,22 @@ ends_last (Broken ∷ xs) = ends_last xs
 -- what an end tells
 pub whole_at_end : (s : Source) (xs : List Piece) → LawOf s (xs ++ End ∷ []) → output s ≡ Ok (parts xs)
 whole_at_end s xs h = h.whole (ends_last xs) ∙ ap (λ (b : List ℕ). Ok b) (parts_end xs)
+
+-- ---- what lies there
+
+short_back : (xs ys : List Piece) → AllShort (xs ++ ys) → AllShort ys
+short_back [] ys h = h
+short_back (x ∷ xs) ys h = short_back xs ys h.1
+
+few_bytes : (xs : List Piece) → AllShort xs → length (parts xs) ≤ length xs * 65536
+few_bytes [] h = omega arith
+few_bytes (Part p ∷ xs) h = omega (arith, length-append p (parts xs), h.0, few_bytes xs h.1)
+few_bytes (End ∷ xs) h = omega (arith, few_bytes xs h.1)
+few_bytes (Broken ∷ xs) h = omega (arith, few_bytes xs h.1)
+
+pub few_lie_there : FewLieThere
+few_lie_there items views (opened e s) = few_bytes items (subst AllShort (sym e) tt)
+few_lie_there items views (both b) = few_bytes items (short_back b.taken items (subst AllShort (sym b.flows) b.law.short))
 
 -- ---- giving up
 
@@ -222,6 +248,7 @@ broken_fit (Some whole) xs (rest, e) =
 pub law_broken : (s : Source) (xs : List Piece) → AllParts xs → LawOf s xs → LawOf s (xs ++ Broken ∷ [])
 law_broken s xs h l = record {
   last = broken_last xs h;
+  short = short-append xs (Broken ∷ []) l.short (tt, tt);
   first = broken_fit (aside s) xs l.first;
   whole = λ e. absurd (broken_ends xs h e);
 }

@@ -19,14 +19,13 @@ use Rattle.line_flow.specs.Refused.{Right}
 use Rattle.line_flow.specs.Told.{Told, early_by, fed_more, grow, pairs_in}
 use Rattle.line_flow.proofs.GrownInputs.{all-parts, grow-grow, grow-nothing, grow_next}
 use Rattle.line_flow.proofs.StandsLaw.{gives_right}
-use Rattle.ciel_flow_pieces.specs.Leads.{Begins, IsOf, JoinedEach, at}
-use Rattle.ciel_flow_pieces.specs.Pieces.{AllParts, LawOf, parts}
+use Rattle.ciel_flow_pieces.specs.Leads.{Begins, IsFirstOf, IsOf, JoinedEach, at}
+use Rattle.ciel_flow_pieces.specs.Pieces.{AllParts, AllShort, LawOf, parts}
 use Rattle.ciel_flow_pieces.specs.Source.{hands_out, output, output_by}
 use Rattle.ciel_flow_pieces.specs.declared.piece.Piece.{Piece}
-use Rattle.ciel_flow_pieces.specs.declared.piece.Piece.TheVariants.{Part, End}
+use Rattle.ciel_flow_pieces.specs.declared.piece.Piece.TheVariants.{End}
 use Rattle.ciel_flow_pieces.specs.declared.piece.Source.{Source}
-use Rattle.ciel_flow_pieces.proofs.Leading.{aside_is, joined_at, law_end, law_part, length_joined, same_each, whole_of}
-use Rattle.ciel_flow_pieces.proofs.Pieces.{all_more, parts_more}
+use Rattle.ciel_flow_pieces.proofs.Leading.{aside_is, joined_at, length_joined, put_last, same_each, whole_of}
 
 unless_ok : (b : Bool) (xs outputs : List (List ℕ)) → ◌≡◌ {A = Answer} (cond b (Err TooLarge) (Ok xs)) (Ok outputs) → xs ≡ outputs
 unless_ok true xs outputs e = absurd cc
@@ -71,23 +70,20 @@ moved_right s t inputs e ps of r =
 -- the rest of the output may be put, and then the end
 pub put_rest : (s : Source) (t : Told) (inputs more outputs : List (List ℕ)) (e : Executor) (ps : Pairs (List ℕ)) (b : List ℕ) (xs : List Piece)
     → IsOf s t inputs → t.fed ≡ inputs → Right t.executor t.args t.outputs e ps → hands_out (executor_of s.executor) ≡ true
-    → gives t.executor t.args t.fed t.outputs ≡ Ok outputs → Follows t.drained more outputs → AllParts xs → parts xs ≡ at t.drained s.index
-    → b ≡ at more s.index → LawOf s (xs ++ Part b ∷ []) × LawOf s ((xs ++ Part b ∷ []) ++ End ∷ [])
-put_rest s t inputs more outputs e ps b xs of fed right hands answer f all same is =
+    → gives t.executor t.args t.fed t.outputs ≡ Ok outputs → Follows t.drained more outputs → parts xs ≡ at t.drained s.index → b ≡ at more s.index
+    → IsFirstOf record { source = s; pieces = xs } b
+    × ((ys : List Piece) → AllParts ys → AllShort ys → parts ys ≡ parts xs ++ b → LawOf s (ys ++ End ∷ []))
+put_rest s t inputs more outputs e ps b xs of fed right hands answer f same is =
     let gives_so : gives s.executor (slots (view s.args)) inputs s.outputs ≡ Ok outputs = moved_gives s t inputs of fed ∙ answer in
     let early = gives_whole s.executor (slots (view s.args)) s.outputs e ps inputs outputs (moved_right s t inputs e ps of right) hands gives_so in
     let next : parts xs ++ b ≡ at outputs s.index =
     ap₂ (λ (x y : List ℕ). x ++ y) same is ∙ sym (joined_at t.drained more s.index f.count)
     ∙ ap (λ (ys : List (List ℕ)). at ys s.index) f.whole in
-    let whole : parts xs ++ b ≡ whole_of s inputs = next ∙ ap (λ (ys : List (List ℕ)). at ys s.index) early in
-    let aside = aside_is s t inputs of in
     let out : output s ≡ Ok (at outputs s.index) =
     ap (λ r. output_by s.executor s.index r (λ ins. gives s.executor (slots (view s.args)) ins s.outputs)) of.given
-    ∙ ap (λ r. output_by s.executor s.index (Ok inputs) (λ ins. r)) gives_so in (
-      law_part s xs b (whole_of s inputs) [] all aside (append-nil (parts xs ++ b) ∙ whole),
-      law_end s (xs ++ Part b ∷ []) (whole_of s inputs) (all_more xs b all) aside (parts_more xs b ∙ whole)
-          (out ∙ ap (λ (r : List ℕ). Ok r) (sym (parts_more xs b ∙ next))),
-    )
+    ∙ ap (λ r. output_by s.executor s.index (Ok inputs) (λ ins. r)) gives_so in
+    put_last s xs b (whole_of s inputs) (aside_is s t inputs of) (out ∙ ap (λ (ys : List (List ℕ)). Ok (at ys s.index)) early)
+    (next ∙ ap (λ (ys : List (List ℕ)). at ys s.index) early)
 
 -- ---- pieces of an input
 

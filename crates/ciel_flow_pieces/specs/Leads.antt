@@ -1,5 +1,5 @@
 -- What a producer has done so far.
-use Rattle.std.specs.Prelude.{◌≡◌, ℕ, List, [], ◌∷◌, ◌++◌, length, None, Ok, slice_index_or}
+use Rattle.std.specs.Prelude.{◌≡◌, ℕ, List, [], ◌∷◌, ◌++◌, length, Some, None, Ok, slice_index_or}
 use Rattle.sky_base.specs.Val.{Val}
 use Rattle.sky_base.specs.View.{view}
 use Rattle.sky_base_exec.specs.Perform.{slots}
@@ -8,7 +8,8 @@ use Rattle.line_flow.specs.Refused.{refusal}
 use Rattle.line_flow.specs.Stands.{Stands}
 use Rattle.line_flow.specs.Told.{CanFeed, Told, grow}
 use Rattle.line_flow.specs.declared.flow.Flow.{Flow}
-use Rattle.ciel_flow_pieces.specs.Pieces.{AllParts, StreamSeen, parts}
+use Rattle.ciel_flow_pieces.specs.Pieces.{AllParts, AllShort, StreamSeen, parts}
+use Rattle.ciel_flow_pieces.specs.Source.{aside}
 use Rattle.ciel_flow_pieces.specs.declared.piece.Source.{Source}
 
 -- the bytes of an output so far, or none
@@ -21,6 +22,11 @@ pub record Leads (f : Flow) (t : Told) (kept : List (List ℕ)) (p : StreamSeen)
   pub keeps : kept ≡ t.drained
   pub puts : parts p.pieces ≡ at t.drained p.source.index
   pub all : AllParts p.pieces
+  pub short : AllShort p.pieces
+
+-- what was put, and then these bytes, is the beginning of what may be had
+abbrev pub IsFirstOf : StreamSeen → List ℕ → Type 0
+IsFirstOf p bytes = (rest : List ℕ) × (aside p.source ≡ Some ((parts p.pieces ++ bytes) ++ rest))
 
 -- the call is that of the source, with these inputs, and a right one
 pub record IsOf (s : Source) (t : Told) (inputs : List (List ℕ)) : Type 0 where

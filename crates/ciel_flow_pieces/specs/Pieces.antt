@@ -1,5 +1,5 @@
 -- The rule of a stream of pieces.
-use Rattle.std.specs.Prelude.{◌≡◌, ℕ, List, [], ◌∷◌, ◌++◌, Option, Some, None, Ok}
+use Rattle.std.specs.Prelude.{◌≡◌, ◌≤◌, ◌*◌, ℕ, List, [], ◌∷◌, ◌++◌, length, Option, Some, None, Ok}
 use Rattle.crossbeam_channel.specs.Claims.{Pass, view}
 use Rattle.sky_base.specs.declared.value.Value.{Value}
 use Rattle.ciel_flow_pieces.specs.Source.{aside, output}
@@ -48,6 +48,20 @@ OnlyLast (Part p ∷ xs) = OnlyLast xs
 OnlyLast (End ∷ xs) = IsNone xs
 OnlyLast (Broken ∷ xs) = IsNone xs
 
+-- the most bytes of a part
+abbrev pub most_of_a_piece : ℕ
+most_of_a_piece = 65536
+
+abbrev pub IsShort : Piece → Type 0
+IsShort (Part p) = length p ≤ most_of_a_piece
+IsShort End = Unit {0}
+IsShort Broken = Unit {0}
+
+-- each part has at most so many bytes
+abbrev pub AllShort : List Piece → Type 0
+AllShort [] = Unit {0}
+AllShort (x ∷ xs) = IsShort x × AllShort xs
+
 -- they have the first bytes; where there are none to be had they have no part
 abbrev pub PartsFit : Option (List ℕ) → List Piece → Type 0
 PartsFit None xs = NoParts xs
@@ -56,6 +70,7 @@ PartsFit (Some whole) xs = (rest : List ℕ) × (parts xs ++ rest ≡ whole)
 -- what may be put of an output
 pub record LawOf (s : Source) (xs : List Piece) : Type 0 where
   pub last : OnlyLast xs
+  pub short : AllShort xs
   pub first : PartsFit (aside s) xs
   pub whole : Ends xs → output s ≡ Ok (parts xs)
 
@@ -85,6 +100,10 @@ pub record Both (items : List Piece) (views : List Knows) : Type 0 where
 pub data Stands (items : List Piece) (views : List Knows) : Type 0 where
   opened : items ≡ [] → views ≡ alone ∷ [] → Stands items views
   both : Both items views → Stands items views
+
+-- of what lies there, so many pieces have at most so many times the most bytes of a part
+abbrev pub FewLieThere : Type 0
+FewLieThere = (items : List Piece) (views : List Knows) → Stands items views → length (parts items) ≤ length items * most_of_a_piece
 
 -- ---- steps
 

@@ -15,7 +15,7 @@ use std::alloc::{AllocError, Global};
 use std::marker::Model;
 use std::sync::Wait;
 
-/// How many pieces may lie in a stream.
+/// How many pieces may lie in a stream. A part has at most 65,536 bytes, so at most eight times as many bytes of an output lie there.
 pub const ROOM: usize = 8;
 
 // Puts a piece, and tries again for as long as it comes back.

@@ -1,6 +1,6 @@
 //! The run of an executor that hands out one of its outputs while it runs.
 
-ghost use Rattle.std.specs.Prelude.{◌≡◌, ◌++◌, ◌<◌, ◌^◌, ℕ, List, [], ◌∷◌, IfOk, Ok, length, replicate, true};
+ghost use Rattle.std.specs.Prelude.{◌≡◌, ◌++◌, ◌<◌, ◌≤◌, ◌^◌, ℕ, List, [], ◌∷◌, IfOk, Ok, length, replicate, true};
 ghost use Rattle.sky_base.specs.KitView.{RunsSo};
 ghost use Rattle.sky_base.specs.View.{view};
 ghost use Rattle.sky_base_exec.specs.Perform.{slots};
@@ -8,9 +8,9 @@ ghost use Rattle.line_kit.specs.Gives.{gives};
 ghost use Rattle.line_kit.specs.Table.{executor_of};
 ghost use Rattle.line_flow.specs.Told.{CanFeed, Told, drained_more, fed_more, opened};
 ghost use Rattle.line_flow.specs.Stands.{Stands};
-ghost use Rattle.ciel_flow_pieces.specs.Pieces.{AllParts, LawOf};
+ghost use Rattle.ciel_flow_pieces.specs.Pieces.{AllParts, AllShort, LawOf, most_of_a_piece, parts};
 ghost use Rattle.ciel_flow_pieces.specs.Source.{hands_out};
-ghost use Rattle.ciel_flow_pieces.specs.Leads.{Begins, IsCall, IsOf, JoinedEach, Leads, WasFed, at};
+ghost use Rattle.ciel_flow_pieces.specs.Leads.{Begins, IsCall, IsFirstOf, IsOf, JoinedEach, Leads, WasFed, at};
 ghost use Rattle.ciel_flow_pieces.specs.declared.piece.Piece.TheVariants.{End};
 
 use crate::ends::Producer;
@@ -104,6 +104,80 @@ fn one_of(alloc: Global, more: &[Bytes], index: u32) -> Result<Bytes, Memory>
     }
 }
 
+// A copy of these bytes.
+fn copied(alloc: Global, bytes: &[u8]) -> Result<Bytes, Memory>
+    ensures { IfOk result (λ b. b ≡ bytes.now) }
+{
+    match Vec::from_slice(alloc, bytes) {
+        Ok(copy) => Bytes::new(alloc, copy),
+        Err(_) => Err(Memory),
+    }
+}
+
+// Puts one part.
+fn put_one<R: Wait>(rt: &R, part: Bytes, producer: &mut Producer)
+    requires short { length part ≤ most_of_a_piece }
+    requires all { AllParts producer.old.pieces }
+    requires all_short { AllShort producer.old.pieces }
+    requires begins { IsFirstOf producer.old part }
+    ensures source { producer.new.source ≡ producer.old.source }
+    ensures all { AllParts producer.new.pieces }
+    ensures all_short { AllShort producer.new.pieces }
+    ensures put { parts producer.new.pieces ≡ parts producer.old.pieces ++ part }
+{
+    producer.put(rt, Piece::Part(part));
+}
+
+// Puts copies of these bytes, in as many parts as they take.
+fn put_cut<R: Wait>(
+    rt: &R,
+    alloc: Global,
+    bytes: &[u8],
+    producer: &mut Producer,
+) -> Result<(), Memory>
+    requires all { AllParts producer.old.pieces }
+    requires all_short { AllShort producer.old.pieces }
+    requires begins { IsFirstOf producer.old bytes.now }
+    ensures source { producer.new.source ≡ producer.old.source }
+    ensures all { AllParts producer.new.pieces }
+    ensures all_short { AllShort producer.new.pieces }
+    ensures put { IfOk result (λ _. parts producer.new.pieces ≡ parts producer.old.pieces ++ bytes.now) }
+{
+    let mut rest = bytes;
+    while rest.len() > MOST_OF_A_PIECE {
+        let (piece, more) = rest.split_at(MOST_OF_A_PIECE);
+        let part = copied(alloc, piece)?;
+        put_one(rt, part, producer);
+        rest = more;
+    }
+    let last = copied(alloc, rest)?;
+    put_one(rt, last, producer);
+    Ok(())
+}
+
+/// Puts these bytes, as they are where one part may have so many, else copied into as many parts as they take.
+pub(crate) fn put_parts<R: Wait>(
+    rt: &R,
+    alloc: Global,
+    bytes: Bytes,
+    producer: &mut Producer,
+) -> Result<(), Memory>
+    requires all { AllParts producer.old.pieces }
+    requires all_short { AllShort producer.old.pieces }
+    requires begins { IsFirstOf producer.old bytes }
+    ensures source { producer.new.source ≡ producer.old.source }
+    ensures all { AllParts producer.new.pieces }
+    ensures all_short { AllShort producer.new.pieces }
+    ensures put { IfOk result (λ _. parts producer.new.pieces ≡ parts producer.old.pieces ++ bytes) }
+{
+    let all = bytes.as_slice();
+    if all.len() > MOST_OF_A_PIECE {
+        return put_cut(rt, alloc, all, producer);
+    }
+    put_one(rt, bytes, producer);
+    Ok(())
+}
+
 /// Feeds a piece, drains the flow, keeps what it hands out and puts that of one output.
 pub(crate) fn lead_piece<R: Wait>(
     rt: &R,
@@ -127,7 +201,7 @@ pub(crate) fn lead_piece<R: Wait>(
     let more = flow.drain()?;
     let part = one_of(alloc, more.as_slice(), index)?;
     add_all(kept, more.as_slice())?;
-    producer.put(rt, Piece::Part(part));
+    put_parts(rt, alloc, part, producer)?;
     Ok(())
 }
 
@@ -198,7 +272,7 @@ pub(crate) fn lead_end<R: Wait>(
             let mut kept = kept;
             add_all(&mut kept, more.as_slice())?;
             let outputs = in_bytes(alloc, kept)?;
-            producer.put(rt, Piece::Part(part));
+            put_parts(rt, alloc, part, producer)?;
             Ok(Ok(outputs))
         }
     }
@@ -268,7 +342,7 @@ pub fn lead<R: Wait>(
     }
 }
 
-/// Puts an output that is at hand whole, as one part. The last piece isn't put: the end may be.
+/// Puts an output that is at hand whole, in as many parts as it takes. The last piece isn't put: the end may be.
 ///
 /// Answers `Memory` for want of memory. Whatever it answers, all that was put are parts.
 pub fn hand_out<R: Wait>(
@@ -287,7 +361,7 @@ pub fn hand_out<R: Wait>(
     ensures all { AllParts producer.new.pieces }
     ensures end { IfOk result (λ _. LawOf producer.new.source (producer.new.pieces ++ End ∷ [])) }
 {
-    let part = one_of(alloc, outputs, index)?;
-    producer.put(rt, Piece::Part(part));
+    let whole = one_of(alloc, outputs, index)?;
+    put_parts(rt, alloc, whole, producer)?;
     Ok(())
 }

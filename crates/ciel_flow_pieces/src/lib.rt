@@ -5,6 +5,7 @@
 pub mod begin;
 pub mod ends;
 pub mod follow;
+pub mod law;
 pub mod lead;
 pub mod piece;
 pub mod rule;

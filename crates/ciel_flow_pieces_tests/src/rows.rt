@@ -148,6 +148,13 @@ fn streams_are_followed(rt: HostRuntime) -> Result<(), Fail> {
     Ok(())
 }
 
+// A line that is longer than a part may be comes in two parts, behind an empty one for each of the two pieces of the input.
+#[test]
+fn long_lines_are_cut(rt: HostRuntime) -> Result<(), Fail> {
+    assert!(&rt; follows(&rt, rt.alloc(), ALL, "cat", "ab", 35_000, 4)?);
+    Ok(())
+}
+
 // A call that is refused puts no part and leaves nothing.
 #[test]
 fn refused_calls_leave_nothing(rt: HostRuntime) -> Result<(), Fail> {

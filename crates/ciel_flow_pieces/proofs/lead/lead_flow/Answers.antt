@@ -8,7 +8,7 @@ use Rattle.line_flow.specs.Told.{grow, opened}
 use Rattle.line_flow.proofs.GrownInputs.{grow_next}
 use Rattle.line_flow.proofs.Results.{on_ok}
 use Rattle.ciel_flow_pieces.specs.Leads.{at}
-use Rattle.ciel_flow_pieces.specs.Pieces.{AllParts, parts}
+use Rattle.ciel_flow_pieces.specs.Pieces.{AllParts, AllShort, parts}
 use Rattle.ciel_flow_pieces.proofs.Whole.{at_nothing, begins_next, fed_length, fed_whole, is_of_on, moved_gives}
 use Rattle.ciel_flow_pieces.proofs.lead.lead_flow.Goals as goal
 
@@ -26,6 +26,7 @@ loop-input-init g c =
           keeps = c.in_ok-kept.ensures;
           puts = ap parts c.requires.fresh ∙ sym (at_nothing c.args.outputs p.source.index);
           all = subst AllParts (sym c.requires.fresh) tt;
+          short = subst AllShort (sym c.requires.fresh) tt;
         },
         c.requires.call,
         (let same : n ≡ n - 0 = omega arith in ap (λ (m : ℕ). replicate {A = List ℕ} m []) same),
