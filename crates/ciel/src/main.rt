@@ -75,7 +75,7 @@ fn why(e: io::Error) -> Why
 /// Runs the program, and gives the status of the process.
 fn run<R>(rt: R, mut out: HostOut, mut log: HostErr) -> u8
 where
-    R: Env + Files + Threads + Wait + Alloc<A = Global> + Copy + Send + Drop + 'static,
+    R: Env + Files + Threads + Wait + Alloc<A = Global> + Copy + Send + Sync + Drop + 'static,
 {
     let words = match words(&rt) {
         Ok(words) => words,

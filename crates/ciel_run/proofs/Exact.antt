@@ -23,8 +23,9 @@ use Rattle.sky_parse.specs.Source.{IsScript, end_of}
 use Rattle.ciel_run_load.specs.Line as files
 use Rattle.ciel_run_load.specs.Line.{Input, keys_of}
 use Rattle.ciel_words.specs.declared.words.Words.{Words}
+use Rattle.sky_base.specs.KitView.{Gives}
 use Rattle.ciel_run_line.specs.Line.{FitsIn, SourceFits, files_of}
-use Rattle.ciel_run_line.specs.Source.{IsAnswer, IsSource, OfJob, job_of, over_lines}
+use Rattle.ciel_run_line.specs.Source.{IsAnswer, IsSource, OfJob, job_of, around}
 use Rattle.ciel_run_load.specs.Syntax.{IsSyntaxFault}
 use Rattle.ciel_run_load.specs.Found.{AllWithin, Fits, IsFirstOver, IsTooLong, input_limit, limit}
 use Rattle.ciel_run.specs.Ending.{IsExpected, MayEnd, TooLongIn}
@@ -163,29 +164,30 @@ same_end : (source : List ℕ) (end why : Why) → Ends source (Some end) → En
 same_end source end why x y = let e = one_end source (Some end) (Some why) x y in cc
 
 -- a run's end speaks of a script
-end_script : (w : Words) (source : List ℕ) (inputs : List Input) (why : Why) → MayEnd w source inputs why → IsSource source inputs
-end_script w source inputs (Why.TooMany held None) m = (m.0, m.1, tt)
-end_script w source inputs (Why.TooMany held (Some given)) m = m
-end_script w source inputs Why.Done m = (m.1.0, m.1.1, tt)
-end_script w source inputs (Why.Fault fault) m = (m.0, m.1, tt)
-end_script w source inputs (Why.Endless names) m = (m.0, m.1, tt)
-end_script w source inputs Why.AllLost m = m
-end_script w source inputs (Why.NameClash kept given) m = m
-end_script w source inputs (Why.TooDeepPlain depth) m = (m.0, m.1, tt)
-end_script w source inputs (Why.BadLog path at) m = absurd m
-end_script w source inputs (Why.OtherJob path) m = absurd m
-end_script w source inputs (Why.LogFull path held) m = (m.1.1.0, m.1.1.1, tt)
-end_script w source inputs (Why.KeepFault path) m = absurd m
-end_script w source inputs Why.Usage m = absurd m
-end_script w source inputs (Why.Syntax kind l c) m = absurd m
-end_script w source inputs (Why.ReadFault path) m = absurd m
-end_script w source inputs Why.WriteFault m = absurd m
-end_script w source inputs Why.Memory m = absurd m
-end_script w source inputs (Why.TooLongInput path at) m = absurd m
+end_script : (g : Gives) (w : Words) (source : List ℕ) (inputs : List Input) (why : Why) → MayEnd g w source inputs why → IsSource source inputs
+end_script g w source inputs (Why.TooMany held None) m = (m.0, m.1, tt)
+end_script g w source inputs (Why.TooMany held (Some given)) m = m
+end_script g w source inputs Why.Done m = (m.1.0, m.1.1, tt)
+end_script g w source inputs (Why.Fault fault) m = (m.0, m.1, tt)
+end_script g w source inputs (Why.Endless names) m = (m.0, m.1, tt)
+end_script g w source inputs Why.AllLost m = m
+end_script g w source inputs (Why.NameClash kept given) m = m
+end_script g w source inputs (Why.TooDeepPlain depth) m = (m.0, m.1, tt)
+end_script g w source inputs (Why.BadLog path at) m = absurd m
+end_script g w source inputs (Why.OtherJob path) m = absurd m
+end_script g w source inputs (Why.LogFull path held) m = (m.1.1.0, m.1.1.1, tt)
+end_script g w source inputs (Why.BadMemo path at) m = absurd m
+end_script g w source inputs (Why.KeepFault path) m = absurd m
+end_script g w source inputs Why.Usage m = absurd m
+end_script g w source inputs (Why.Syntax kind l c) m = absurd m
+end_script g w source inputs (Why.ReadFault path) m = absurd m
+end_script g w source inputs Why.WriteFault m = absurd m
+end_script g w source inputs Why.Memory m = absurd m
+end_script g w source inputs (Why.TooLongInput path at) m = absurd m
 
 -- where it is none, or too long, no run ends
-no_end : (w : Words) (source : List ℕ) (inputs : List Input) (why : Why) → (IsSource source inputs → ⊥) → MayEnd w source inputs why → ⊥
-no_end w source inputs why n m = n (end_script w source inputs why m)
+no_end : (g : Gives) (w : Words) (source : List ℕ) (inputs : List Input) (why : Why) → (IsSource source inputs → ⊥) → MayEnd g w source inputs why → ⊥
+no_end g w source inputs why n m = n (end_script g w source inputs why m)
 
 -- what is too long stands in a file, and the script isn't too long
 too_long_script : (f : Option files.Line) (source : List ℕ) (inputs : List Input) (path : List ℕ) (at : ℕ) → SourceFits f source
@@ -197,33 +199,34 @@ too_long_script (Some f) source inputs path at h (inr t) = t.1
 
 refused_so : (w : Words) (source : List ℕ) (inputs : List Input) (end : Why) → Ends source (Some end) → SourceFits (files_of w) source
     → EndsSo w source inputs end
-refused_so w source inputs end x h why y = of why y
+refused_so w source inputs end x h g why y = of why y
   where
     none : IsSource source inputs → ⊥
     none s = no_script source end (keys_of inputs) s.0 x s.1
 
-    of : (why : Why) → IsExpected w source inputs why → (why ≡ Why.Memory) ⊎ (why ≡ end)
+    of : (why : Why) → IsExpected g w source inputs why → (why ≡ Why.Memory) ⊎ (why ≡ end)
     of (Why.Syntax kind l c) y = inr (same_end source end (Why.Syntax kind l c) x (of_syntax source kind l c y.1))
     of (Why.TooLongInput path at) (inl y) =
         let s = too_long_script (files_of w) source inputs path at h y in
         absurd (no_script source end (keys_of inputs) s.0 x s.1)
     of (Why.TooLongInput path at) (inr y) = absurd (none y.3)
     of Why.Memory y = inl refl
-    of (Why.TooMany held None) y = absurd (no_end w source inputs (Why.TooMany held None) none y.1)
-    of (Why.TooMany held (Some given)) y = absurd (no_end w source inputs (Why.TooMany held (Some given)) none y.1)
-    of Why.Done y = absurd (no_end w source inputs Why.Done none y.1)
-    of (Why.Fault fault) y = absurd (no_end w source inputs (Why.Fault fault) none y.1)
-    of (Why.Endless names) y = absurd (no_end w source inputs (Why.Endless names) none y.1)
-    of Why.AllLost y = absurd (no_end w source inputs Why.AllLost none y.1)
-    of (Why.NameClash kept given) y = absurd (no_end w source inputs (Why.NameClash kept given) none y.1)
-    of (Why.TooDeepPlain depth) y = absurd (no_end w source inputs (Why.TooDeepPlain depth) none y.1)
+    of (Why.TooMany held None) y = absurd (no_end g w source inputs (Why.TooMany held None) none y.1)
+    of (Why.TooMany held (Some given)) y = absurd (no_end g w source inputs (Why.TooMany held (Some given)) none y.1)
+    of Why.Done y = absurd (no_end g w source inputs Why.Done none y.1)
+    of (Why.Fault fault) y = absurd (no_end g w source inputs (Why.Fault fault) none y.1)
+    of (Why.Endless names) y = absurd (no_end g w source inputs (Why.Endless names) none y.1)
+    of Why.AllLost y = absurd (no_end g w source inputs Why.AllLost none y.1)
+    of (Why.NameClash kept given) y = absurd (no_end g w source inputs (Why.NameClash kept given) none y.1)
+    of (Why.TooDeepPlain depth) y = absurd (no_end g w source inputs (Why.TooDeepPlain depth) none y.1)
     of (Why.BadLog path at) y = absurd y.1
     of (Why.OtherJob path) y = absurd y.1
-    of (Why.LogFull path held) y = absurd (no_end w source inputs (Why.LogFull path held) none y.1)
+    of (Why.LogFull path held) y = absurd (no_end g w source inputs (Why.LogFull path held) none y.1)
     of (Why.KeepFault path) y = absurd y.1
     of Why.Usage y = absurd y.1
     of (Why.ReadFault path) y = absurd y.1
     of Why.WriteFault y = absurd y.1
+    of (Why.BadMemo path at) y = absurd y.1
 
 pub no_script_is_refused : NoScriptIsRefused
 no_script_is_refused = λ w source inputs kind l c x h. refused_so w source inputs (Why.Syntax kind l c) (of_syntax source kind l c x) h
@@ -251,33 +254,34 @@ not_too_long None source inputs path at h t = t
 not_too_long (Some f) source inputs path at h (inl t) = let k = h.0 in omega (arith, k, t.2)
 not_too_long (Some f) source inputs path at h (inr t) = none_over f.inputs inputs path t.3 h.1
 
-script_ends : (w : Words) (source : List ℕ) (inputs : List Input) (script : Script) → IsScript source (keys_of inputs) script
-    → FitsIn (files_of w) source inputs → (why : Why) → IsExpected w source inputs why → EndsScript w script inputs why
-script_ends w source inputs script s h Why.Done y =
-    (y.1.0, as_script source inputs script (λ j. Means j over_lines (Answered.bytes y.1.0)) s y.1.1)
-script_ends w source inputs script s h (Why.Fault fault) y = as_script source inputs script (λ j. Means j over_lines (Answered.fault fault)) s y.1
-script_ends w source inputs script s h (Why.Endless names) y = as_script source inputs script (λ j. Never j over_lines) s y.1
-script_ends w source inputs script s h (Why.TooMany held None) y = as_script source inputs script (λ j. MakesMany j over_lines 65537) s y.1
-script_ends w source inputs script s h (Why.TooMany held (Some given)) y = tt
-script_ends w source inputs script s h Why.AllLost y = tt
-script_ends w source inputs script s h (Why.NameClash kept given) y = tt
-script_ends w source inputs script s h (Why.TooDeepPlain depth) y = as_script source inputs script (λ j. (d : Desc) × Chain j over_lines 4096 d) s y.1
-script_ends w source inputs script s h (Why.LogFull path held) y =
-    (y.1.1.0, as_script source inputs script (λ j. Means j over_lines (Answered.bytes y.1.1.0)) s y.1.1.1)
-script_ends w source inputs script s h (Why.KeepFault path) y = absurd y.1
-script_ends w source inputs script s h Why.Memory y = tt
-script_ends w source inputs script s h (Why.Syntax kind l c) y =
+script_ends : (g : Gives) (w : Words) (source : List ℕ) (inputs : List Input) (script : Script) → IsScript source (keys_of inputs) script
+    → FitsIn (files_of w) source inputs → (why : Why) → IsExpected g w source inputs why → EndsScript g w script inputs why
+script_ends g w source inputs script s h Why.Done y =
+    (y.1.0, as_script source inputs script (λ j. Means j (around g) (Answered.bytes y.1.0)) s y.1.1)
+script_ends g w source inputs script s h (Why.Fault fault) y = as_script source inputs script (λ j. Means j (around g) (Answered.fault fault)) s y.1
+script_ends g w source inputs script s h (Why.Endless names) y = as_script source inputs script (λ j. Never j (around g)) s y.1
+script_ends g w source inputs script s h (Why.TooMany held None) y = as_script source inputs script (λ j. MakesMany j (around g) 65537) s y.1
+script_ends g w source inputs script s h (Why.TooMany held (Some given)) y = tt
+script_ends g w source inputs script s h Why.AllLost y = tt
+script_ends g w source inputs script s h (Why.NameClash kept given) y = tt
+script_ends g w source inputs script s h (Why.TooDeepPlain depth) y = as_script source inputs script (λ j. (d : Desc) × Chain j (around g) 4096 d) s y.1
+script_ends g w source inputs script s h (Why.LogFull path held) y =
+    (y.1.1.0, as_script source inputs script (λ j. Means j (around g) (Answered.bytes y.1.1.0)) s y.1.1.1)
+script_ends g w source inputs script s h (Why.KeepFault path) y = absurd y.1
+script_ends g w source inputs script s h Why.Memory y = tt
+script_ends g w source inputs script s h (Why.Syntax kind l c) y =
     absurd (no_script source (Why.Syntax kind l c) (keys_of inputs) script (of_syntax source kind l c y.1) s)
-script_ends w source inputs script s h (Why.TooLongInput path at) (inl y) = absurd (not_too_long (files_of w) source inputs path at h y)
-script_ends w source inputs script s h (Why.TooLongInput path at) (inr y) = y.0
-script_ends w source inputs script s h (Why.BadLog path at) y = absurd y.1
-script_ends w source inputs script s h (Why.OtherJob path) y = absurd y.1
-script_ends w source inputs script s h Why.Usage y = absurd y.1
-script_ends w source inputs script s h (Why.ReadFault path) y = absurd y.1
-script_ends w source inputs script s h Why.WriteFault y = absurd y.1
+script_ends g w source inputs script s h (Why.TooLongInput path at) (inl y) = absurd (not_too_long (files_of w) source inputs path at h y)
+script_ends g w source inputs script s h (Why.TooLongInput path at) (inr y) = y.0
+script_ends g w source inputs script s h (Why.BadLog path at) y = absurd y.1
+script_ends g w source inputs script s h (Why.OtherJob path) y = absurd y.1
+script_ends g w source inputs script s h Why.Usage y = absurd y.1
+script_ends g w source inputs script s h (Why.ReadFault path) y = absurd y.1
+script_ends g w source inputs script s h Why.WriteFault y = absurd y.1
+script_ends g w source inputs script s h (Why.BadMemo path at) y = absurd y.1
 
 pub script_is_run : ScriptIsRun
-script_is_run = λ w source inputs script s h why y. script_ends w source inputs script s h why y
+script_is_run = λ g w source inputs script s h why y. script_ends g w source inputs script s h why y
 
 -- ---- what is too long
 
@@ -289,12 +293,12 @@ module _ (w : Words) (f : files.Line) (is : files_of w ≡ Some f) (source : Lis
   one_end_of : (end : Why) → (FitsIn (Some f) source inputs → ⊥)
       → ((kind : SyntaxKind) (l c : ℕ) → SourceFits (Some f) source × IsSyntaxFault source kind l c → ⊥)
       → ((path : List ℕ) (at : ℕ) → TooLongIn (Some f) source inputs path at → Why.TooLongInput path at ≡ end) → EndsSo w source inputs end
-  one_end_of end none no_kind same why y = of why y
+  one_end_of end none no_kind same k why y = of why y
     where
       unfit : FitsIn (files_of w) source inputs → ⊥
       unfit h = none (fit_of (λ g. FitsIn g source inputs) h)
 
-      of : (why : Why) → IsExpected w source inputs why → (why ≡ Why.Memory) ⊎ (why ≡ end)
+      of : (why : Why) → IsExpected k w source inputs why → (why ≡ Why.Memory) ⊎ (why ≡ end)
       of (Why.Syntax kind l c) y = absurd (no_kind kind l c (fit_of (λ g. SourceFits g source × IsSyntaxFault source kind l c) y))
       of (Why.TooLongInput path at) (inl y) = inr (same path at (fit_of (λ g. TooLongIn g source inputs path at) y))
       of (Why.TooLongInput path at) (inr y) = absurd (unfit y.2)
@@ -314,6 +318,7 @@ module _ (w : Words) (f : files.Line) (is : files_of w ≡ Some f) (source : Lis
       of Why.Usage y = absurd y.1
       of (Why.ReadFault path) y = absurd y.1
       of Why.WriteFault y = absurd y.1
+      of (Why.BadMemo path at) y = absurd y.1
 
   too_long : limit < length source → EndsSo w source inputs (Why.TooLongInput f.script limit)
   too_long h =
@@ -341,6 +346,6 @@ pub too_long_input_is_refused : TooLongInputIsRefused
 too_long_input_is_refused = λ w f is source inputs script path s h o. too_long_input w f is source inputs script path s h o
 
 pub means_one_answer : MeansOneAnswer
-means_one_answer source inputs a b x y =
-    means_one (job_of x.0 inputs) over_lines a b x.2
-    (subst (λ (s : Script). Means (job_of s inputs) over_lines b) (same_script source (keys_of inputs) y.0 x.0 y.1 x.1) y.2)
+means_one_answer g source inputs a b x y =
+    means_one (job_of x.0 inputs) (around g) a b x.2
+    (subst (λ (s : Script). Means (job_of s inputs) (around g) b) (same_script source (keys_of inputs) y.0 x.0 y.1 x.1) y.2)

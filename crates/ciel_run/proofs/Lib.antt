@@ -4,3 +4,6 @@ mod Modest
 mod Headline
 mod Troubles
 mod Others
+mod Recalled
+mod Remembered
+mod Kept

@@ -15,7 +15,7 @@ use Rattle.ciel_run_load.specs.declared.script.SyntaxKind.{SyntaxKind}
 use Rattle.ciel_run_line.specs.Seen.{most_descriptions}
 use Rattle.ciel_run_line.specs.RunEnd.{RunEnd}
 use Rattle.ciel_words.specs.declared.words.Words.{Words}
-use Rattle.line_kit.specs.Gives.{gives}
+use Rattle.sky_base.specs.KitView.{Gives}
 use Rattle.sky_parse.specs.Source.{IsScript}
 use Rattle.sky_base.specs.Tree.{Script}
 use Rattle.ciel_run_line.specs.Causes.{CauseOf, JobCause, TooLongOf}
@@ -24,10 +24,11 @@ use Rattle.ciel_run_line.specs.Line.{FitsIn, OfLine, StandsIn, files_of}
 use Rattle.ciel_run_line.proofs.Comes.{surely_line}
 use Rattle.ciel_run_line.proofs.Own.{no_bad_record}
 use Rattle.ciel_run_line.specs.Runs.{IsDriven, IsModestFor, digest_of, plan_of, told_of}
-use Rattle.ciel_run_line.specs.Source.{OfJob, job_of, over_lines}
+use Rattle.ciel_run_line.specs.Source.{OfJob, job_of, around}
 use Rattle.ciel_run_log.specs.declared.why.Why.{Why}
 use Rattle.ciel_run.proofs.Exact.{not_too_long, same_script, script_is_run}
-use Rattle.ciel_run.proofs.Over.{Begun, own_header, source_of, too_long_in}
+use Rattle.ciel_memo_file.specs.Laws.{NeverBoth}
+use Rattle.ciel_run.proofs.Over.{Begun, has_memo, memo_short, own_header, source_of, too_long_in}
 
 -- ---- distinct members of a list are no more than it has
 
@@ -81,16 +82,16 @@ module _ {A : Type 0} where
 
 -- ---- of a job
 
-module _ (digest : List ℕ → List ℕ) (job : s.Job) where
-  made_in_all : (m : IsModest digest job gives most_descriptions) (d : s.Desc) → p.Makes job over_lines d → t.In d m.all
+module _ (h : Gives) (digest : List ℕ → List ℕ) (job : s.Job) where
+  made_in_all : (m : IsModest digest job h most_descriptions) (d : s.Desc) → p.Makes job (around h) d → t.In d m.all
   made_in_all m d (inl e) = m.made d (inl e)
   made_in_all m d (inr x) = m.made d (inr (x.0, x.2, x.1, x.3))
 
-  all_made : (m : IsModest digest job gives most_descriptions) (ds : List s.Desc) → t.Each (p.Makes job over_lines) ds → t.Each (λ d. t.In d m.all) ds
+  all_made : (m : IsModest digest job h most_descriptions) (ds : List s.Desc) → t.Each (p.Makes job (around h)) ds → t.Each (λ d. t.In d m.all) ds
   all_made m [] e = tt
   all_made m (d ∷ ds) e = (made_in_all m d e.0, all_made m ds e.1)
 
-  pub not_many : IsModest digest job gives most_descriptions → p.MakesMany job over_lines 65537 → ⊥
+  pub not_many : IsModest digest job h most_descriptions → p.MakesMany job (around h) 65537 → ⊥
   not_many m x =
       let k = fewer x.0 m.all x.2 (all_made m x.0 x.3) in
       let f = m.few in
@@ -107,21 +108,21 @@ OfTheJob Why.AllLost = Unit {0}
 OfTheJob (Why.NameClash kept given) = Unit {0}
 OfTheJob _ = ⊥
 
-module _ (w : Words) (job : s.Job) (J : List Entry) where
-  driven_or : (J ≡ []) ⊎ DrivenJournal (told_of w job) (plan_of w) J → DrivenJournal (told_of w job) (plan_of w) J
+module _ (h : Gives) (w : Words) (job : s.Job) (J : List Entry) where
+  driven_or : (J ≡ []) ⊎ DrivenJournal (told_of h w job) (plan_of w) J → DrivenJournal (told_of h w job) (plan_of w) J
   driven_or (inl e) = ([], tt, sym e)
   driven_or (inr d) = d
 
-  module _ (laws : ModestRunsAnswer) (orderly : IsOrderly (digest_of w.names) job gives)
-      (m : IsModest (digest_of w.names) job gives most_descriptions) (stays : SomeStays (plan_of w))
-      (d : DrivenJournal (told_of w job) (plan_of w) J) where
-    has : (end : RunEnd) → EndsSo (digest_of w.names) job gives (plan_of w) J end → HasAnswer end
-    has end e = laws (digest_of w.names) job gives orderly (plan_of w) m stays J end e
+  module _ (laws : ModestRunsAnswer) (orderly : IsOrderly (digest_of w.names) job h)
+      (m : IsModest (digest_of w.names) job h most_descriptions) (stays : SomeStays (plan_of w))
+      (d : DrivenJournal (told_of h w job) (plan_of w) J) where
+    has : (end : RunEnd) → EndsSo (digest_of w.names) job h (plan_of w) J end → HasAnswer end
+    has end e = laws (digest_of w.names) job h orderly (plan_of w) m stays J end e
 
-    pub no_other : (why : Why) → OfTheJob why → JobCause w J job why → IsAnswered w why
+    pub no_other : (why : Why) → OfTheJob why → JobCause h w J job why → IsAnswered w why
     no_other (Why.Fault fault) n c = tt
     no_other (Why.Endless names) n c = has (RunEnd.Endless names) (record { driven = d; cause = (c.1, c.2, c.3) })
-    no_other (Why.TooMany held None) n c = not_many (digest_of w.names) job m c.2
+    no_other (Why.TooMany held None) n c = not_many h (digest_of w.names) job m c.2
     no_other (Why.TooMany held (Some given)) n c = has (RunEnd.TooMany held given) (record { driven = d; cause = (c.2.0, sym c.2.1, c.2.2) })
     no_other Why.AllLost n c = has RunEnd.AllLost (record { driven = d; cause = c.1 })
     no_other (Why.NameClash kept given) n c = has (RunEnd.NameClash kept given) (record { driven = d; cause = c.1 })
@@ -137,44 +138,45 @@ module _ (w : Words) (job : s.Job) (J : List Entry) where
     no_other (Why.BadLog path at) n c = absurd n
     no_other (Why.OtherJob path) n c = absurd n
     no_other (Why.KeepFault path) n c = absurd n
+    no_other (Why.BadMemo path at) n c = absurd n
 
 -- ---- of a line
 
 module _ (content : List ℕ → Option (List ℕ)) (w : Words) (risen : Type 0) (J : List Entry) (laws : ModestRunsAnswer)
-    (functions : FunctionsAreOrderly) where
+    (functions : FunctionsAreOrderly) (both : NeverBoth) where
   -- a cause said of one script of the bytes is said of the one whose job is modest
   same_job : (source : List ℕ) (inputs : List Input) (P : s.Job → Type 0) (script : Script) → IsScript source (keys_of inputs) script
       → OfJob source inputs P → P (job_of script inputs)
   same_job source inputs P script is o =
       subst (λ (x : Script). P (job_of x inputs)) (same_script source (keys_of inputs) o.0 script o.1 is) o.2
 
-  module _ (source : List ℕ) (inputs : List Input) (m : IsModestFor w source inputs) (stays : SomeStays (plan_of w))
-      (driven : IsDriven w source inputs J) where
+  module _ (h : Gives) (source : List ℕ) (inputs : List Input) (m : IsModestFor h w source inputs) (stays : SomeStays (plan_of w))
+      (driven : IsDriven h w source inputs J) where
     abbrev job : s.Job
     job = job_of m.0 inputs
 
-    d : DrivenJournal (told_of w job) (plan_of w) J
+    d : DrivenJournal (told_of h w job) (plan_of w) J
     d = of driven
       where
-        of : IsDriven w source inputs J → DrivenJournal (told_of w job) (plan_of w) J
-        of (inl e) = driven_or w job J (inl e)
-        of (inr x) = same_job source inputs (λ j. DrivenJournal (told_of w j) (plan_of w) J) m.0 m.1 x
+        of : IsDriven h w source inputs J → DrivenJournal (told_of h w job) (plan_of w) J
+        of (inl e) = driven_or h w job J (inl e)
+        of (inr x) = same_job source inputs (λ j. DrivenJournal (told_of h w j) (plan_of w) J) m.0 m.1 x
 
-    one : (why : Why) → OfTheJob why → JobCause w J job why → IsAnswered w why
-    one why n c = no_other w job J laws (functions source (keys_of inputs) m.0 m.1) m.2 stays d why n c
+    one : (why : Why) → OfTheJob why → JobCause h w J job why → IsAnswered w why
+    one why n c = no_other h w job J laws (functions source (keys_of inputs) m.0 m.1) m.2 stays d why n c
 
-    pub answered : (why : Why) → OfTheJob why → OfJob source inputs (λ j. JobCause w J j why) → IsAnswered w why
-    answered why n o = one why n (same_job source inputs (λ j. JobCause w J j why) m.0 m.1 o)
+    pub answered : (why : Why) → OfTheJob why → OfJob source inputs (λ j. JobCause h w J j why) → IsAnswered w why
+    answered why n o = one why n (same_job source inputs (λ j. JobCause h w J j why) m.0 m.1 o)
 
-    pub lost_answered : JobCause w J job Why.AllLost → IsAnswered w Why.AllLost
+    pub lost_answered : JobCause h w J job Why.AllLost → IsAnswered w Why.AllLost
     lost_answered c = one Why.AllLost tt c
 
   -- bytes that are a script within the limits are refused neither as none nor as too long
-  no_syntax : (kind : SyntaxKind) (l c : ℕ) → CauseOf content w risen J (Why.Syntax kind l c) → (source : List ℕ) (inputs : List Input)
+  no_syntax : (h : Gives) (kind : SyntaxKind) (l c : ℕ) → CauseOf content w risen J (Why.Syntax kind l c) → (source : List ℕ) (inputs : List Input)
       → StandsIn content (files_of w) w.generate source inputs → FitsIn (files_of w) source inputs → (script : Script)
       → IsScript source (keys_of inputs) script → ⊥
-  no_syntax kind l c x source inputs st fits script is =
-      script_is_run w source inputs script is fits (Why.Syntax kind l c) (x source (source_of content w (files_of w) w.generate source inputs st))
+  no_syntax h kind l c x source inputs st fits script is =
+      script_is_run h w source inputs script is fits (Why.Syntax kind l c) (x source (source_of content w (files_of w) w.generate source inputs st))
 
   no_too_long : (path : List ℕ) (at : ℕ) → TooLongOf content (files_of w) path at → (source : List ℕ) (inputs : List Input)
       → StandsIn content (files_of w) w.generate source inputs → FitsIn (files_of w) source inputs → (script : Script)
@@ -183,30 +185,34 @@ module _ (content : List ℕ → Option (List ℕ)) (w : Words) (risen : Type 0)
       not_too_long (files_of w) source inputs path at fits (too_long_in content w (files_of w) w.generate source inputs path at st x)
 
   pub answers : (why : Why) → EndCause content w risen J why → ¬ risen → (why ≡ Why.WriteFault → ⊥) → Begun why
-      → OfLine content w (λ source inputs. IsDriven w source inputs J)
-      → OfLine content w (λ source inputs. Answers w source inputs why)
-  answers Why.Done c quiet nw bg dr source inputs st fits m stays = tt
-  answers Why.WriteFault c quiet nw bg dr source inputs st fits m stays = absurd (nw refl)
-  answers Why.Memory c quiet nw bg dr source inputs st fits m stays = tt
-  answers (Why.Fault fault) c quiet nw bg dr source inputs st fits m stays = tt
-  answers (Why.TooDeepPlain depth) c quiet nw bg dr source inputs st fits m stays = c.0
-  answers (Why.Endless names) c quiet nw bg dr source inputs st fits m stays =
-      answered source inputs m stays (dr source inputs st) (Why.Endless names) tt (c.2 source inputs st).1
-  answers (Why.TooMany held None) c quiet nw bg dr source inputs st fits m stays =
-      answered source inputs m stays (dr source inputs st) (Why.TooMany held None) tt (c.1 source inputs st).1
-  answers (Why.TooMany held (Some given)) c quiet nw bg dr source inputs st fits m stays =
-      answered source inputs m stays (dr source inputs st) (Why.TooMany held (Some given)) tt (c.1 source inputs st).1
-  answers (Why.NameClash kept given) c quiet nw bg dr source inputs st fits m stays =
-      answered source inputs m stays (dr source inputs st) (Why.NameClash kept given) tt (c.1 source inputs st).1
-  answers Why.AllLost c quiet nw bg dr source inputs st fits m stays = lost_answered source inputs m stays (dr source inputs st) (c.0, surely_line content w _ c.1 source inputs st)
-  answers (Why.Syntax kind l k) c quiet nw bg dr source inputs st fits m stays = absurd (no_syntax kind l k c source inputs st.there fits m.0 m.1)
-  answers (Why.TooLongInput path at) (inl c) quiet nw bg dr source inputs st fits m stays =
+      → OfLine content w (λ h source inputs. IsDriven h w source inputs J)
+      → OfLine content w (λ h source inputs. Answers h w source inputs why)
+  answers Why.Done c quiet nw bg dr h given source inputs st fits m stays = tt
+  answers Why.WriteFault c quiet nw bg dr h given source inputs st fits m stays = absurd (nw refl)
+  answers Why.Memory c quiet nw bg dr h given source inputs st fits m stays = tt
+  answers (Why.Fault fault) c quiet nw bg dr h given source inputs st fits m stays = tt
+  answers (Why.TooDeepPlain depth) c quiet nw bg dr h given source inputs st fits m stays = c.0
+  answers (Why.Endless names) c quiet nw bg dr h given source inputs st fits m stays =
+      answered h source inputs m stays (dr h given source inputs st) (Why.Endless names) tt (c.2 h given source inputs st).1
+  answers (Why.TooMany held None) c quiet nw bg dr h given source inputs st fits m stays =
+      answered h source inputs m stays (dr h given source inputs st) (Why.TooMany held None) tt (c.1 h given source inputs st).1
+  answers (Why.TooMany held (Some one)) c quiet nw bg dr h given source inputs st fits m stays =
+      answered h source inputs m stays (dr h given source inputs st) (Why.TooMany held (Some one)) tt (c.1 h given source inputs st).1
+  answers (Why.NameClash kept one) c quiet nw bg dr h given source inputs st fits m stays =
+      answered h source inputs m stays (dr h given source inputs st) (Why.NameClash kept one) tt (c.1 h given source inputs st).1
+  answers Why.AllLost c quiet nw bg dr h given source inputs st fits m stays = lost_answered h source inputs m stays (dr h given source inputs st) (c.0, surely_line content w _ c.1 h given source inputs st)
+  answers (Why.Syntax kind l k) c quiet nw bg dr h given source inputs st fits m stays = absurd (no_syntax h kind l k c source inputs st.there fits m.0 m.1)
+  answers (Why.TooLongInput path at) (inl c) quiet nw bg dr h given source inputs st fits m stays =
       absurd (no_too_long path at c source inputs st.there fits m.0 m.1)
-  answers (Why.TooLongInput path at) (inr c) quiet nw bg dr source inputs st fits m stays = c.0
-  answers (Why.ReadFault path) c quiet nw bg dr source inputs st fits m stays = absurd (quiet c.1)
-  answers Why.Usage c quiet nw bg dr source inputs st fits m stays = absurd c
-  answers (Why.LogFull path held) c quiet nw bg dr source inputs st fits m stays = c.0
-  answers (Why.BadLog path at) c quiet nw bg dr source inputs st fits m stays = absurd (no_bad_record content w path at c.1 c.3 source inputs st)
-  answers (Why.OtherJob path) c quiet nw bg dr source inputs st fits m stays =
-      absurd (own_header content w path c.1 source inputs (c.3 source inputs st.there).0 (c.3 source inputs st.there).1 st.own)
-  answers (Why.KeepFault path) c quiet nw bg dr source inputs st fits m stays = absurd (bg path refl)
+  answers (Why.TooLongInput path at) (inr (inl c)) quiet nw bg dr h given source inputs st fits m stays =
+      absurd (memo_short content w path c.0 (has_memo content w w.memo h given) c.2)
+  answers (Why.TooLongInput path at) (inr (inr c)) quiet nw bg dr h given source inputs st fits m stays = c.0
+  answers (Why.BadMemo path at) c quiet nw bg dr h given source inputs st fits m stays =
+      let there = has_memo content w w.memo h given path c.0 in absurd (both there.0 there.1 at there.3 (c.1.0 there.0 there.2))
+  answers (Why.ReadFault path) c quiet nw bg dr h given source inputs st fits m stays = absurd (quiet c.1)
+  answers Why.Usage c quiet nw bg dr h given source inputs st fits m stays = absurd c
+  answers (Why.LogFull path held) c quiet nw bg dr h given source inputs st fits m stays = c.0
+  answers (Why.BadLog path at) c quiet nw bg dr h given source inputs st fits m stays = absurd (no_bad_record content w path at c.1 c.3 h given source inputs st)
+  answers (Why.OtherJob path) c quiet nw bg dr h given source inputs st fits m stays =
+      absurd (own_header content w h path c.1 source inputs (c.3 source inputs st.there).0 (c.3 source inputs st.there).1 st.own)
+  answers (Why.KeepFault path) c quiet nw bg dr h given source inputs st fits m stays = absurd (bg path refl)

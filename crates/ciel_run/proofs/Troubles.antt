@@ -1,5 +1,5 @@
 -- What comes in the way of a log, behind an answer that was written, and before.
-use Rattle.std.proofs.Common.{◌≡◌, ◌≢◌, ◌≤◌, ◌⊎◌, ◌++◌, inl, inr, ℕ, List, [], true, false, Option, Some, None, Result, Ok, Err, refl, sym, ap, subst, ◌∙◌}
+use Rattle.std.proofs.Common.{◌≡◌, ◌≢◌, ◌≤◌, ◌⊎◌, ◌++◌, inl, inr, ℕ, List, [], Bool, true, false, Option, Some, None, Result, Ok, Err, refl, sym, ap, subst, ◌∙◌, arith}
 use Rattle.std.specs.Prelude.{IfErr, IfSome}
 use Rattle.sky_base.specs.See as s
 use Rattle.sky_base.specs.See.{Answered}
@@ -9,19 +9,21 @@ use Rattle.ciel_io.specs.Kept.{Files}
 use Rattle.ciel_io.specs.Tells.{Tells}
 use Rattle.ciel_io.proofs.Joined.{part_whole}
 use Rattle.ciel_journal.specs.Entries.{Entry}
+use Rattle.sky_base.specs.KitView.{Gives}
 use Rattle.ciel_run_line.specs.Logging.{most}
 use Rattle.ciel_run_line.specs.Logs.{HasDropped}
 use Rattle.ciel_run_line.specs.LogState.{LogState}
 use Rattle.ciel_run_load.specs.Line.{Input}
-use Rattle.ciel_run_line.specs.Asked.{AsksFor}
+use Rattle.ciel_run_line.specs.Answering.{HasEnd}
+use Rattle.ciel_run_line.specs.Asked.{AsksFor, NoRun}
 use Rattle.ciel_run_line.specs.Causes.{CauseOf, OfRun}
 use Rattle.ciel_run_line.specs.Keeping.{AsksOnly, BeginsLog, FillsLog, HasBytes, IsLog, KeeperSeen, KeepsLog, LogTold, OfLog, StandsBy, Told}
-use Rattle.ciel_run_line.specs.Source.{over_lines}
+use Rattle.ciel_run_line.specs.Source.{around}
 use Rattle.ciel_run_log.specs.declared.why.Why.{Why}
 use Rattle.ciel_words.specs.declared.words.Words.{Words}
 use Rattle.ciel_run_line.specs.Runs.{log_at, log_path}
 use Rattle.ciel_words.specs.Sound.{LineIsSound}
-use Rattle.ciel_run.specs.Ending.{AsksLog, EndCause, IfKeepFault, IfLogFull, IsTrouble, LogSays, WritesNothing}
+use Rattle.ciel_run.specs.Ending.{AsksLog, EndCause, EndsJob, IfKeepFault, IfLogFull, IsTrouble, LogSays, WritesNothing}
 
 -- an answer was written, or it wasn't whole; then that is told which came in the way of the log
 abbrev pub Finished : Option (List ℕ) → LogState → Why → Type 0
@@ -70,13 +72,13 @@ something log state why f n = writes_something log state why (kind log state why
 
 module _ (content : List ℕ → Option (List ℕ)) (w : Words) (risen : Type 0) (J : List Entry)
     (plain : (path : List ℕ) → log_path w ≡ Some path → w.plain ≡ false) (a : List ℕ)
-    (answer : OfRun content w risen J (λ job. s.Means job over_lines (Answered.bytes a))) where
-  ran : OfRun content w risen J (λ job. Unit {0})
-  ran source inputs st = let y = answer source inputs st in (y.0, (y.1.0, y.1.1, tt))
+    (answer : OfRun content w risen J (λ h job. s.Means job (around h) (Answered.bytes a))) where
+  ran : OfRun content w risen J (λ h job. Unit {0})
+  ran h given source inputs st = let y = answer h given source inputs st in (y.0, (y.1.0, y.1.1, tt))
 
   cause_of : (state : LogState) (why : Why) → Kind (log_path w) state why → EndCause content w risen J why
   cause_of state why (done e x) = subst (EndCause content w risen J) (sym e) tt
-  cause_of state why (failed path n t e) = subst (EndCause content w risen J) (sym e) (plain path n, n, ran)
+  cause_of state why (failed path n t e) = subst (EndCause content w risen J) (sym e) (plain path n, inl n, ran)
   cause_of state why (full path held n t e) = subst (EndCause content w risen J) (sym e) (plain path n, n, (a, answer))
   cause_of state why (memory e) = subst (EndCause content w risen J) (sym e) tt
   cause_of state why (unwritten e) = subst (EndCause content w risen J) (sym e) tt
@@ -124,7 +126,7 @@ module _ (log : Option (List ℕ)) (before now : KeeperSeen) (a : List ℕ) (sta
   log_full why f = log_full_of why (kind log state why f)
 
 -- which paths the keeper was asked
-asks_any : (path : List ℕ) (before now : Option (List (List ℕ))) (why : Why) → AsksOnly path before now → AsksLog (Some path) why before now
+pub asks_any : (path : List ℕ) (before now : Option (List (List ℕ))) (why : Why) → AsksOnly path before now → AsksLog (Some path) why before now
 asks_any path before now Why.Memory a = tt
 asks_any path before now Why.Done a = a
 asks_any path before now Why.Usage a = a
@@ -142,6 +144,7 @@ asks_any path before now (Why.KeepFault p) a = a
 asks_any path before now (Why.BadLog p at) a = a
 asks_any path before now (Why.OtherJob p) a = a
 asks_any path before now (Why.LogFull p held) a = a
+asks_any path before now (Why.BadMemo p at) a = a
 
 pub asked_then : (log : Option (List ℕ)) (before now : KeeperSeen) (a : List ℕ) (state : LogState) → KeepsLog log before now (Ok a) state → (why : Why)
     → AsksLog log why before.asked now.asked
@@ -169,6 +172,7 @@ asked_so (Some path) before now (Why.TooDeepPlain depth) state k = k.0
 asked_so (Some path) before now (Why.BadLog p at) state k = k.0
 asked_so (Some path) before now (Why.OtherJob p) state k = k.0
 asked_so (Some path) before now (Why.LogFull p held) state k = k.0
+asked_so (Some path) before now (Why.BadMemo p at) state k = k.0
 
 pub keep_fault_so : (log : Option (List ℕ)) (before now : KeeperSeen) (why : Why) (state : LogState) → KeepsLog log before now (Err why) state
     → ((path : List ℕ) → why ≡ Why.KeepFault path → log ≡ Some path) → IfKeepFault why (λ path. HasRisen before.faults now.faults)
@@ -190,11 +194,65 @@ keep_fault_so log before now (Why.TooDeepPlain depth) state k n = tt
 keep_fault_so log before now (Why.BadLog p at) state k n = tt
 keep_fault_so log before now (Why.OtherJob p) state k n = tt
 keep_fault_so log before now (Why.LogFull p held) state k n = tt
+keep_fault_so log before now (Why.BadMemo p at) state k n = tt
+
+-- its faults don't fall, where the job came to an answer or a fault
+same_falls : (before now : KeeperSeen) → now ≡ before → before.faults ≤ now.faults
+same_falls before now e = let same : now.faults ≡ before.faults = ap (λ (x : KeeperSeen). x.faults) e in omega (arith, same)
+
+pub answer_falls : (log : Option (List ℕ)) (before now : KeeperSeen) (a : List ℕ) (state : LogState) → KeepsLog log before now (Ok a) state
+    → before.faults ≤ now.faults
+answer_falls None before now a state k = same_falls before now k.0
+answer_falls (Some path) before now a state k = k.2
+
+pub end_falls : (log : Option (List ℕ)) (before now : KeeperSeen) (why : Why) (state : LogState) → KeepsLog log before now (Err why) state
+    → EndsJob why → before.faults ≤ now.faults
+end_falls None before now why state k e = same_falls before now k.0
+end_falls (Some path) before now Why.Done state k e = k.2
+end_falls (Some path) before now Why.Usage state k e = absurd e
+end_falls (Some path) before now (Why.Syntax kind line col) state k e = absurd e
+end_falls (Some path) before now (Why.Fault fault) state k e = k.2
+end_falls (Some path) before now (Why.Endless names) state k e = absurd e
+end_falls (Some path) before now (Why.TooMany held given) state k e = absurd e
+end_falls (Some path) before now Why.AllLost state k e = absurd e
+end_falls (Some path) before now (Why.NameClash kept given) state k e = absurd e
+end_falls (Some path) before now (Why.ReadFault p) state k e = absurd e
+end_falls (Some path) before now Why.WriteFault state k e = absurd e
+end_falls (Some path) before now Why.Memory state k e = absurd e
+end_falls (Some path) before now (Why.TooLongInput p at) state k e = absurd e
+end_falls (Some path) before now (Why.TooDeepPlain depth) state k e = absurd e
+end_falls (Some path) before now (Why.KeepFault p) state k e = absurd e
+end_falls (Some path) before now (Why.BadLog p at) state k e = absurd e
+end_falls (Some path) before now (Why.OtherJob p) state k e = absurd e
+end_falls (Some path) before now (Why.LogFull p held) state k e = absurd e
+end_falls (Some path) before now (Why.BadMemo p at) state k e = absurd e
+
+-- an end of a job is one of its run
+pub has_end : (content : List ℕ → Option (List ℕ)) (w : Words) (risen : Type 0) (J : List Entry) (why : Why) → CauseOf content w risen J why
+    → EndsJob why → HasEnd (Err why)
+has_end content w risen J (Why.Fault fault) c e = tt
+has_end content w risen J Why.Done c e = absurd c
+has_end content w risen J Why.Usage c e = absurd e
+has_end content w risen J (Why.Syntax kind line col) c e = absurd e
+has_end content w risen J (Why.Endless names) c e = absurd e
+has_end content w risen J (Why.TooMany held given) c e = absurd e
+has_end content w risen J Why.AllLost c e = absurd e
+has_end content w risen J (Why.NameClash kept given) c e = absurd e
+has_end content w risen J (Why.ReadFault p) c e = absurd e
+has_end content w risen J Why.WriteFault c e = absurd e
+has_end content w risen J Why.Memory c e = absurd e
+has_end content w risen J (Why.TooLongInput p at) c e = absurd e
+has_end content w risen J (Why.TooDeepPlain depth) c e = absurd e
+has_end content w risen J (Why.KeepFault p) c e = absurd e
+has_end content w risen J (Why.BadLog p at) c e = absurd e
+has_end content w risen J (Why.OtherJob p) c e = absurd e
+has_end content w risen J (Why.LogFull p held) c e = absurd e
+has_end content w risen J (Why.BadMemo p at) c e = absurd e
 
 -- ---- what the log's file tells
 
 -- a part of what is known of the file
-of_file : (files : Option Files) (path : List ℕ) (P Q : List ℕ → Type 0) → ((bytes : List ℕ) → P bytes → Q bytes)
+pub of_file : (files : Option Files) (path : List ℕ) (P Q : List ℕ → Type 0) → ((bytes : List ℕ) → P bytes → Q bytes)
     → IfSome files (λ fs. (HasDropped (bytes_at fs path) → ⊥) → P (bytes_at fs path))
     → IfSome files (λ fs. (HasDropped (bytes_at fs path) → ⊥) → Q (bytes_at fs path))
 of_file None path P Q f t = tt
@@ -208,41 +266,41 @@ module _ (before now : KeeperSeen) (state : LogState) (result : Result (List ℕ
   rises (Some path) k e = subst (StandsBy path before now) e (ran path k).1
 
 -- the bytes begin a log by another reason for which they may not be all of one
-begins_so : (w : Words) (source : List ℕ) (inputs : List Input) (J : List Entry) (broken breaks : Type 0) → (broken → breaks) → (bytes : List ℕ)
-    → BeginsLog w source inputs J broken bytes → BeginsLog w source inputs J breaks bytes
-begins_so w source inputs J broken breaks f bytes (script, is, inl part) = (script, is, inl part)
-begins_so w source inputs J broken breaks f bytes (script, is, inr (x, before, number, count, part, same)) =
+pub begins_so : (g : Gives) (w : Words) (source : List ℕ) (inputs : List Input) (J : List Entry) (broken breaks : Type 0) → (broken → breaks) → (bytes : List ℕ)
+    → BeginsLog g w source inputs J broken bytes → BeginsLog g w source inputs J breaks bytes
+begins_so g w source inputs J broken breaks f bytes (script, is, inl part) = (script, is, inl part)
+begins_so g w source inputs J broken breaks f bytes (script, is, inr (x, before, number, count, part, same)) =
     (script, is, inr (f x, before, number, count, part, same))
 
-module _ (w : Words) (source : List ℕ) (inputs : List Input) (J : List Entry) (broken : Type 0) (files : Option Files) (state : LogState) where
+module _ (g : Gives) (w : Words) (source : List ℕ) (inputs : List Input) (J : List Entry) (broken : Type 0) (files : Option Files) (state : LogState) where
   abbrev Known : Type 0
-  Known = OfLog w source inputs J files (Told w source inputs J state)
+  Known = OfLog g w source inputs J files (Told g w source inputs J state)
 
-  of_kind : (why : Why) → Kind (log_path w) state why → Known → LogSays w source inputs J broken files why
+  of_kind : (why : Why) → Kind (log_path w) state why → Known → LogSays g w source inputs J broken files why
   of_kind why (done e x) t =
-      subst (LogSays w source inputs J broken files) (sym e) (λ path n. of_file files path (Told w source inputs J state) (IsLog w source inputs J)
+      subst (LogSays g w source inputs J broken files) (sym e) (λ apart path n. of_file files path (Told g w source inputs J state) (IsLog g w source inputs J)
       (λ bytes k. k.1 (x path n)) (t path n))
-  of_kind why (failed path n f e) t = subst (LogSays w source inputs J broken files) (sym e) tt
+  of_kind why (failed path n f e) t = subst (LogSays g w source inputs J broken files) (sym e) tt
   of_kind why (full path held n f e) t =
-      subst (LogSays w source inputs J broken files) (sym e) (λ p m. of_file files p (Told w source inputs J state) (FillsLog w source inputs J held)
+      subst (LogSays g w source inputs J broken files) (sym e) (λ p m. of_file files p (Told g w source inputs J state) (FillsLog g w source inputs J held)
       (λ bytes k. k.2 held f) (t p m))
-  of_kind why (memory e) t = subst (LogSays w source inputs J broken files) (sym e) tt
-  of_kind why (unwritten e) t = subst (LogSays w source inputs J broken files) (sym e) tt
+  of_kind why (memory e) t = subst (LogSays g w source inputs J broken files) (sym e) tt
+  of_kind why (unwritten e) t = subst (LogSays g w source inputs J broken files) (sym e) tt
 
-  pub says : (why : Why) → Finished (log_path w) state why → Known → LogSays w source inputs J broken files why
+  pub says : (why : Why) → Finished (log_path w) state why → Known → LogSays g w source inputs J broken files why
   says why f t = of_kind why (kind (log_path w) state why f) t
 
-  begins : (state ≡ LogState.Failed → broken) → Known → OfLog w source inputs J files (BeginsLog w source inputs J broken)
-  begins f t = λ path n. of_file files path (Told w source inputs J state) (BeginsLog w source inputs J broken)
-      (λ bytes k. begins_so w source inputs J (state ≡ LogState.Failed) broken f bytes k.0) (t path n)
+  begins : (state ≡ LogState.Failed → broken) → Known → OfLog g w source inputs J files (BeginsLog g w source inputs J broken)
+  begins f t = λ path n. of_file files path (Told g w source inputs J state) (BeginsLog g w source inputs J broken)
+      (λ bytes k. begins_so g w source inputs J (state ≡ LogState.Failed) broken f bytes k.0) (t path n)
 
   -- where the job has no answer
   pub says_so : (content : List ℕ → Option (List ℕ)) (risen : Type 0) (before now : KeeperSeen) (why : Why) → CauseOf content w risen J why
       → KeepsLog (log_path w) before now (Err why) state → (HasRisen before.faults now.faults → broken)
-      → LogTold w source inputs J files state (Err why) → LogSays w source inputs J broken files why
-  says_so content risen before now (Why.Fault fault) c k f t = begins (λ e. f (rises before now state (Err (Why.Fault fault)) (λ p x. x) (log_path w) k e)) t
-  says_so content risen before now (Why.Endless names) c k f t = begins (λ e. f (rises before now state (Err (Why.Endless names)) (λ p x. x) (log_path w) k e)) t
-  says_so content risen before now Why.AllLost c k f t = begins (λ e. f (rises before now state (Err Why.AllLost) (λ p x. x) (log_path w) k e)) t
+      → LogTold g w source inputs J files state (Err why) → LogSays g w source inputs J broken files why
+  says_so content risen before now (Why.Fault fault) c k f t = λ apart. begins (λ e. f (rises before now state (Err (Why.Fault fault)) (λ p x. (x.0, x.1)) (log_path w) k e)) t
+  says_so content risen before now (Why.Endless names) c k f t = begins (λ e. f (rises before now state (Err (Why.Endless names)) (λ p x. (x.0, x.1)) (log_path w) k e)) t
+  says_so content risen before now Why.AllLost c k f t = begins (λ e. f (rises before now state (Err Why.AllLost) (λ p x. (x.0, x.1)) (log_path w) k e)) t
   says_so content risen before now Why.Done c k f t = absurd c
   says_so content risen before now (Why.LogFull path held) c k f t = absurd c
   says_so content risen before now Why.Usage c k f t = tt
@@ -257,6 +315,7 @@ module _ (w : Words) (source : List ℕ) (inputs : List Input) (J : List Entry) 
   says_so content risen before now (Why.KeepFault path) c k f t = tt
   says_so content risen before now (Why.BadLog path at) c k f t = tt
   says_so content risen before now (Why.OtherJob path) c k f t = tt
+  says_so content risen before now (Why.BadMemo path at) c k f t = tt
 
 -- ---- where the job has no answer
 
@@ -283,6 +342,17 @@ given_failed log state why F (unwritten e) f = subst (λ (y : Why). IfKeepFault 
 pub begun_then : (log : Option (List ℕ)) (state : LogState) (why : Why) (F : Type 0) → Finished log state why
     → ((path : List ℕ) → log ≡ Some path → why ≡ Why.KeepFault path → F) → IfKeepFault why (λ path. F)
 begun_then log state why F f g = given_failed log state why F (kind log state why f) g
+
+-- no run began where the end says so, which it does behind an answer of a sequential run alone
+none_began : (log : Option (List ℕ)) (state : LogState) (why : Why) (plain : Bool) → Kind log state why → NoRun plain why → plain ≡ true
+none_began log state why plain (done e x) n = subst (NoRun plain) e n
+none_began log state why plain (failed path m f e) n = subst (NoRun plain) e n
+none_began log state why plain (full path held m f e) n = subst (NoRun plain) e n
+none_began log state why plain (memory e) n = subst (NoRun plain) e n
+none_began log state why plain (unwritten e) n = subst (NoRun plain) e n
+
+pub no_run_is_plain : (log : Option (List ℕ)) (state : LogState) (why : Why) (plain : Bool) → Finished log state why → NoRun plain why → plain ≡ true
+no_run_is_plain log state why plain f n = none_began log state why plain (kind log state why f) n
 
 -- which files were asked: all of the line's
 asks_files : (log : Option (List ℕ)) (state : LogState) (why : Why) (ps others : List (List ℕ)) (b n : Option (List (List ℕ))) → Kind log state why
@@ -315,6 +385,7 @@ keep_fault_map (Why.TooDeepPlain depth) P Q f p = tt
 keep_fault_map (Why.BadLog path at) P Q f p = tt
 keep_fault_map (Why.OtherJob path) P Q f p = tt
 keep_fault_map (Why.LogFull path held) P Q f p = tt
+keep_fault_map (Why.BadMemo path at) P Q f p = tt
 
 pub err_is : (a b : Why) (r : Result (List ℕ) Why) → r ≡ Err a → r ≡ Err b → a ≡ b
 err_is a b r e f = cc

@@ -12,13 +12,20 @@ use Rattle.ciel_run_load.specs.Syntax.{IsSyntaxFault}
 use Rattle.ciel_run_load.specs.declared.script.SyntaxKind.{SyntaxKind}
 use Rattle.ciel_words.specs.declared.words.Words.{Words}
 use Rattle.ciel_run.specs.Ending.{IsExpected}
+use Rattle.line_kit.specs.Gives.{gives}
+use Rattle.sky_base.specs.KitView.{Gives}
+use Rattle.sky_base_law.specs.Tasks.{Each}
+use Rattle.ciel_memo.specs.Right.{IsRight}
+use Rattle.ciel_memo_file.specs.Entries.{Entry}
+use Rattle.ciel_memo_file.specs.File.{IsMemo}
+use Rattle.ciel_run_line.specs.Given.{GivesOf}
 use Rattle.ciel_run_line.specs.Line.{FitsIn, SourceFits, files_of}
-use Rattle.ciel_run_line.specs.Source.{IsAnswer, job_of, over_lines}
+use Rattle.ciel_run_line.specs.Source.{IsAnswer, job_of, around}
 use Rattle.ciel_run_log.specs.declared.why.Why.{Why}
 
--- a call over a script with this source and these inputs ends so, or for want of memory, and in no other way
+-- a call over a script with this source and these inputs ends so, or for want of memory, and in no other way, whatever executors give
 abbrev pub EndsSo : Words → List ℕ → List Input → Why → Type 0
-EndsSo w source inputs end = (why : Why) → IsExpected w source inputs why → (why ≡ Why.Memory) ⊎ (why ≡ end)
+EndsSo w source inputs end = (g : Gives) (why : Why) → IsExpected g w source inputs why → (why ≡ Why.Memory) ⊎ (why ≡ end)
 
 -- Bytes that are no script are refused by the kind and at the place of their first refusal, and for nothing else.
 abbrev pub NoScriptIsRefused : Type 0
@@ -28,26 +35,26 @@ NoScriptIsRefused =
 
 -- the end is what the job of this script comes to: an answer, a fault, none, too many descriptions, a chain that is too long, the loss of all
 -- workers, or two descriptions with one name; or it is of the log that is gone on from
-abbrev pub EndsScript : Words → Script → List Input → Why → Type 0
-EndsScript w script inputs Why.Done = (a : List ℕ) × Means (job_of script inputs) over_lines (Answered.bytes a)
-EndsScript w script inputs (Why.Fault fault) = Means (job_of script inputs) over_lines (Answered.fault fault)
-EndsScript w script inputs (Why.Endless names) = Never (job_of script inputs) over_lines
-EndsScript w script inputs (Why.TooMany held None) = MakesMany (job_of script inputs) over_lines 65537
-EndsScript w script inputs (Why.TooMany held (Some given)) = Unit {0}
-EndsScript w script inputs Why.AllLost = Unit {0}
-EndsScript w script inputs (Why.NameClash kept given) = Unit {0}
-EndsScript w script inputs (Why.LogFull path held) = (a : List ℕ) × Means (job_of script inputs) over_lines (Answered.bytes a)
-EndsScript w script inputs (Why.TooDeepPlain depth) = (d : Desc) × Chain (job_of script inputs) over_lines 4096 d
-EndsScript w script inputs Why.Memory = Unit {0}
-EndsScript w script inputs (Why.TooLongInput path at) = w.resume ≡ Some path
-EndsScript w script inputs _ = ⊥
+abbrev pub EndsScript : Gives → Words → Script → List Input → Why → Type 0
+EndsScript g w script inputs Why.Done = (a : List ℕ) × Means (job_of script inputs) (around g) (Answered.bytes a)
+EndsScript g w script inputs (Why.Fault fault) = Means (job_of script inputs) (around g) (Answered.fault fault)
+EndsScript g w script inputs (Why.Endless names) = Never (job_of script inputs) (around g)
+EndsScript g w script inputs (Why.TooMany held None) = MakesMany (job_of script inputs) (around g) 65537
+EndsScript g w script inputs (Why.TooMany held (Some given)) = Unit {0}
+EndsScript g w script inputs Why.AllLost = Unit {0}
+EndsScript g w script inputs (Why.NameClash kept given) = Unit {0}
+EndsScript g w script inputs (Why.LogFull path held) = (a : List ℕ) × Means (job_of script inputs) (around g) (Answered.bytes a)
+EndsScript g w script inputs (Why.TooDeepPlain depth) = (d : Desc) × Chain (job_of script inputs) (around g) 4096 d
+EndsScript g w script inputs Why.Memory = Unit {0}
+EndsScript g w script inputs (Why.TooLongInput path at) = w.resume ≡ Some path
+EndsScript g w script inputs _ = ⊥
 
 -- Bytes that are a script are never refused as none, nor as too long where no limit is passed: the end is what the job of that script
 -- comes to.
 abbrev pub ScriptIsRun : Type 0
 ScriptIsRun =
-    (w : Words) (source : List ℕ) (inputs : List Input) (script : Script) → IsScript source (keys_of inputs) script
-    → FitsIn (files_of w) source inputs → (why : Why) → IsExpected w source inputs why → EndsScript w script inputs why
+    (g : Gives) (w : Words) (source : List ℕ) (inputs : List Input) (script : Script) → IsScript source (keys_of inputs) script
+    → FitsIn (files_of w) source inputs → (why : Why) → IsExpected g w source inputs why → EndsScript g w script inputs why
 
 -- Bytes that are too many for a script are refused as such, whatever they are.
 abbrev pub TooLongIsRefused : Type 0
@@ -65,4 +72,12 @@ TooLongInputIsRefused =
 -- The bytes of a script mean at most one answer over their inputs.
 abbrev pub MeansOneAnswer : Type 0
 MeansOneAnswer =
-    (source : List ℕ) (inputs : List Input) (a b : Answered) → IsAnswer source inputs a → IsAnswer source inputs b → a ≡ b
+    (g : Gives) (source : List ℕ) (inputs : List Input) (a b : Answered) → IsAnswer g source inputs a → IsAnswer g source inputs b → a ≡ b
+
+-- Where each entry of the memo that a line reads is what the executors over lines give, they give the same with it: so what is said of the line is
+-- what is said of it without a memo.
+abbrev pub RightMemoChangesNothing : Type 0
+RightMemoChangesNothing =
+    (content : List ℕ → Option (List ℕ)) (w : Words) (g : Gives) → GivesOf content w g
+    → ((path bytes : List ℕ) (es : List Entry) → w.memo ≡ Some path → content path ≡ Some bytes → IsMemo bytes es → Each (IsRight gives) es)
+    → g ≡ gives

@@ -3,7 +3,7 @@
 // comes to: so bytes that are refused are refused in exactly one way, at exactly one place, but for
 // want of memory. Each is the contract of a function that does nothing.
 
-ghost use Rattle.ciel_run.specs.Laws.{MeansOneAnswer, NoScriptIsRefused, ScriptIsRun, TooLongIsRefused, TooLongInputIsRefused};
+ghost use Rattle.ciel_run.specs.Laws.{MeansOneAnswer, NoScriptIsRefused, RightMemoChangesNothing, ScriptIsRun, TooLongIsRefused, TooLongInputIsRefused};
 
 /// Bytes that are no script are refused by the kind and at the place of their first refusal, and for
 /// nothing else: the kind and the place are one.
@@ -30,4 +30,9 @@ pub fn too_long_input_is_refused()
 /// they mean.
 pub fn source_means_one_answer()
     ensures { MeansOneAnswer }
+{}
+
+/// Where each entry of the memo that a line reads is what the executors over lines give, they give the same with it as without.
+pub fn right_memo_changes_nothing()
+    ensures { RightMemoChangesNothing }
 {}

@@ -4,6 +4,7 @@
 #![tactic(auto)]
 
 pub mod law;
+mod memo;
 pub mod top;
 
 pub use ciel_run_line::{draws, drive, run_job_run as run};

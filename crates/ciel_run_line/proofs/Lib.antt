@@ -4,8 +4,9 @@ mod Written
 pub mod Comes
 mod ShortHeader
 pub mod Own
-mod Last
+pub mod Last
 mod Onward
 mod Began
 mod Refused
 mod Shared
+mod Recalled

@@ -1,6 +1,6 @@
 -- From what was loaded or generated to the job of a line, and why there is none.
-use Rattle.std.proofs.Common.{◌≡◌, ◌<◌, ◌≤◌, ◌^◌, ◌+◌, ◌++◌, inl, inr, zero, suc, take, slice_get, ℕ, List, [], ◌∷◌, Option, Some, None, IfSome, Contains, length, map, refl, sym, ap, subst, ◌∙◌, arith}
-use Rattle.std.proofs.lemmas.List.{length-map}
+use Rattle.std.proofs.Common.{◌≡◌, ◌<◌, ◌≤◌, ◌^◌, ◌+◌, ◌++◌, inl, inr, zero, suc, take, slice_get, ℕ, List, [], ◌∷◌, Option, Some, None, Result, Err, IfSome, Contains, length, map, refl, sym, ap, subst, ◌∙◌, arith}
+use Rattle.std.proofs.lemmas.List.{append_assoc, length-map}
 use Rattle.std.proofs.lemmas.List.Elements.{Contains-append_left, Contains-push}
 use Rattle.std.specs.List.{AllByRecursion}
 use Rattle.sky_base.specs.See as s
@@ -16,12 +16,12 @@ use Rattle.ciel_run_load.specs.declared.load.NoJob.{NoJob}
 use Rattle.ciel_run_load.specs.declared.script.NoScript.{NoScript}
 use Rattle.ciel_words.specs.declared.words.Words.{Words}
 use Rattle.ciel_io.proofs.Joined.{tells_more}
-use Rattle.ciel_run_line.specs.Answering.{AsksLast, CanRunJob, NoLogBy, no_job_view, no_script_view}
-use Rattle.ciel_run_line.specs.Source.{IsSource}
+use Rattle.ciel_run_line.specs.Answering.{AsksLast, CanRunJob, HasEnd, NoLogBy, NoMemoBy, Unread, no_job_view, no_script_view}
+use Rattle.ciel_run_line.specs.Given.{IsRecalled}
 use Rattle.ciel_run_load.specs.Syntax.{IsSyntaxFault}
-use Rattle.ciel_run_line.specs.Causes.{CauseOf, NoJobBy, TooLongOf}
+use Rattle.ciel_run_line.specs.Causes.{CauseOf, HasJob, NoJobBy, NoneBefore, TooLongOf}
 use Rattle.ciel_run_line.specs.Asked.{AsksFor, IsRead, StopsFor, StopsIn, StopsLast}
-use Rattle.ciel_run_line.specs.Line.{FitsIn, OfJobFiles, SourceFits, SourceIn, StandsIn, files_named, files_of, paths_in, resumed}
+use Rattle.ciel_run_line.specs.Line.{FitsIn, OfJobFiles, SourceFits, SourceIn, StandsIn, behind_job, files_named, files_of, named, paths_in}
 use Rattle.ciel_run_log.specs.declared.why.Why.{Why}
 
 abbrev Files : Type 0
@@ -117,9 +117,9 @@ module _ (content : Files) (w : Words) where
     None_of f g Why.Memory = Unit {0}
     None_of f g _ = ⊥
 
-    back : (why : Why) → None_of (files_of w) w.generate why → NoJobBy content w risen [] why
+    back : (why : Why) → None_of (files_of w) w.generate why → NoneBefore content w risen [] why
     back (Why.Syntax kind l c) n = n
-    back (Why.ReadFault path) n = (Contains-append_left (paths_in (files_of w)) (resumed w.resume) path n.0, n.1)
+    back (Why.ReadFault path) n = (Contains-append_left (paths_in (files_of w)) (behind_job w) path n.0, n.1)
     back (Why.TooLongInput path at) n = inl n
     back Why.Memory n = n
     back Why.Done n = absurd n
@@ -135,6 +135,7 @@ module _ (content : Files) (w : Words) where
     back (Why.BadLog path at) n = absurd n
     back (Why.OtherJob path) n = absurd n
     back (Why.LogFull path held) n = absurd n
+    back (Why.BadMemo path at) n = absurd n
 
     unloaded : (path : List ℕ) (why : NoJob) → NotLoaded content (at path w.inputs) risen why
         → None_of (Some (at path w.inputs)) w.generate (no_job_view why)
@@ -144,7 +145,7 @@ module _ (content : Files) (w : Words) where
     unloaded path NoJob.Memory n = n
 
     pub not_loaded_of : (path : List ℕ) (why : NoJob) → w.script ≡ Some path → NotLoaded content (at path w.inputs) risen why
-        → NoJobBy content w risen [] (no_job_view why)
+        → NoneBefore content w risen [] (no_job_view why)
     not_loaded_of path why e n = back (no_job_view why) (by_path (λ f g. None_of f g (no_job_view why)) path e (unloaded path why n))
 
     unscripted : (lines : ℕ) (why : NoScript) → RefusedSo generator why → None_of None (Some lines) (no_script_view why)
@@ -152,15 +153,38 @@ module _ (content : Files) (w : Words) where
     unscripted lines NoScript.Memory n = tt
 
     pub not_generated_of : (lines : ℕ) (why : NoScript) → w.script ≡ None → w.generate ≡ Some lines → RefusedSo generator why
-        → NoJobBy content w risen [] (no_script_view why)
+        → NoneBefore content w risen [] (no_script_view why)
     not_generated_of lines why e g n = back (no_script_view why)
         (by_lines (λ f h. None_of f h (no_script_view why)) lines e g (unscripted lines why n))
+
+    -- told before a log is looked at, it is told
+    pub before_none : (why : Why) → NoneBefore content w risen [] why → NoJobBy content w risen [] why
+    before_none Why.Done n = n
+    before_none Why.Usage n = n
+    before_none (Why.Syntax kind l c) n = n
+    before_none (Why.Fault fault) n = n
+    before_none (Why.Endless names) n = n
+    before_none (Why.TooMany held given) n = n
+    before_none Why.AllLost n = n
+    before_none (Why.NameClash kept given) n = n
+    before_none (Why.ReadFault path) n = n
+    before_none Why.WriteFault n = n
+    before_none Why.Memory n = n
+    before_none (Why.TooLongInput path at) (inl n) = inl n
+    before_none (Why.TooLongInput path at) (inr n) = inr (inl n)
+    before_none (Why.TooDeepPlain depth) n = n
+    before_none (Why.KeepFault path) n = n
+    before_none (Why.BadLog path at) n = n
+    before_none (Why.OtherJob path) n = n
+    before_none (Why.BadMemo path at) n = n
+    before_none (Why.LogFull path held) n = n
 
     -- whatever the journal is
     pub no_job_cause : (J : List Entry) (why : Why) → NoJobBy content w risen [] why → CauseOf content w risen J why
     no_job_cause J (Why.Syntax kind l c) n = n
     no_job_cause J (Why.ReadFault path) n = n
     no_job_cause J (Why.TooLongInput path at) n = n
+    no_job_cause J (Why.BadMemo path at) n = n
     no_job_cause J Why.Memory n = n
     no_job_cause J Why.Done n = absurd n
     no_job_cause J Why.Usage n = absurd n
@@ -175,6 +199,27 @@ module _ (content : Files) (w : Words) where
     no_job_cause J (Why.LogFull path held) n = absurd n
     no_job_cause J Why.WriteFault n = absurd n
     no_job_cause J (Why.TooDeepPlain depth) n = absurd n
+
+    -- it is no end of a job
+    pub no_end : (why : Why) → NoJobBy content w risen [] why → HasEnd (Err why) → ⊥
+    no_end Why.Done n e = e
+    no_end Why.Usage n e = e
+    no_end (Why.Syntax kind l c) n e = e
+    no_end (Why.Fault fault) n e = n
+    no_end (Why.Endless names) n e = e
+    no_end (Why.TooMany held given) n e = e
+    no_end Why.AllLost n e = e
+    no_end (Why.NameClash kept given) n e = e
+    no_end (Why.ReadFault path) n e = e
+    no_end Why.WriteFault n e = e
+    no_end Why.Memory n e = e
+    no_end (Why.TooLongInput path at) n e = e
+    no_end (Why.TooDeepPlain depth) n e = e
+    no_end (Why.KeepFault path) n e = e
+    no_end (Why.BadLog path at) n e = e
+    no_end (Why.OtherJob path) n e = e
+    no_end (Why.BadMemo path at) n e = e
+    no_end (Why.LogFull path held) n e = e
 
   -- ---- all was read
 
@@ -203,133 +248,249 @@ module _ (content : Files) (w : Words) where
 
   -- ---- in which order
 
-  stops_first : (f : Option files.Line) (resume : Option (List ℕ)) (path : List ℕ) (b n : Option (List (List ℕ))) → StopsIn content f path b n
-      → StopsLast content f resume path b n
-  stops_first f None path b n s = s
-  stops_first f (Some log) path b n s = inl s
-
   order_so : (why : NoJob) (path : List ℕ) (b n : Option (List (List ℕ))) → StopsJob content (at path w.inputs) b n why
-      → StopsFor content (Some (at path w.inputs)) w.resume b n (no_job_view why)
+      → StopsFor content (Some (at path w.inputs)) w.memo w.resume b n (no_job_view why)
   order_so (NoJob.Syntax kind l c) path b n s = tt
-  order_so (NoJob.Failed p) path b n s = stops_first (Some (at path w.inputs)) w.resume p b n s
-  order_so (NoJob.TooLong p m) path b n s = stops_first (Some (at path w.inputs)) w.resume p b n s
+  order_so (NoJob.Failed p) path b n s = inl s
+  order_so (NoJob.TooLong p m) path b n s = inl s
   order_so NoJob.Memory path b n s = tt
 
   pub not_loaded_order : (path : List ℕ) (why : NoJob) (b n : Option (List (List ℕ))) → w.script ≡ Some path
-      → StopsJob content (at path w.inputs) b n why → StopsFor content (files_of w) w.resume b n (no_job_view why)
-  not_loaded_order path why b n e s = by_path (λ f g. StopsFor content f w.resume b n (no_job_view why)) path e (order_so why path b n s)
+      → StopsJob content (at path w.inputs) b n why → StopsFor content (files_of w) w.memo w.resume b n (no_job_view why)
+  not_loaded_order path why b n e s = by_path (λ f g. StopsFor content f w.memo w.resume b n (no_job_view why)) path e (order_so why path b n s)
 
-  pub not_generated_order : (why : NoScript) (f : Option files.Line) (resume : Option (List ℕ)) (b n : Option (List (List ℕ)))
-      → StopsFor content f resume b n (no_script_view why)
-  not_generated_order (NoScript.Syntax kind l c) f resume b n = tt
-  not_generated_order NoScript.Memory f resume b n = tt
+  pub not_generated_order : (why : NoScript) (f : Option files.Line) (memo resume : Option (List ℕ)) (b n : Option (List (List ℕ)))
+      → StopsFor content f memo resume b n (no_script_view why)
+  not_generated_order (NoScript.Syntax kind l c) f memo resume b n = tt
+  not_generated_order NoScript.Memory f memo resume b n = tt
 
--- ---- the log, which is read last
+-- ---- a file that is read behind these
 
-get_last : (xs : List (List ℕ)) (x : List ℕ) → slice_get (xs ++ x ∷ []) (length xs) ≡ Some x
-get_last [] x = refl
-get_last (z ∷ zs) x = get_last zs x
+get_here : (xs ys : List (List ℕ)) (x : List ℕ) → slice_get (xs ++ x ∷ ys) (length xs) ≡ Some x
+get_here [] ys x = refl
+get_here (z ∷ zs) ys x = get_here zs ys x
 
-take_whole : (xs : List (List ℕ)) (x : List ℕ) → take (length xs + 1) (xs ++ x ∷ []) ≡ xs ++ x ∷ []
-take_whole [] x = refl
-take_whole (z ∷ zs) x = let one : suc (length zs) + 1 ≡ suc (length zs + 1) = omega arith in rw one (ap (λ l. z ∷ l) (take_whole zs x))
+take_here : (xs ys : List (List ℕ)) (x : List ℕ) → take (length xs + 1) (xs ++ x ∷ ys) ≡ xs ++ x ∷ []
+take_here [] ys x = refl
+take_here (z ∷ zs) ys x = let one : suc (length zs) + 1 ≡ suc (length zs + 1) = omega arith in rw one (ap (λ l. z ∷ l) (take_here zs ys x))
 
-up_to_last : (ps : List (List ℕ)) (path : List ℕ) (b m n : Option (List (List ℕ))) → Tells b m ps → Tells m n (path ∷ [])
-    → AsksUpTo path (ps ++ path ∷ []) b n
-up_to_last ps path b m n t u =
-    (length ps, get_last ps path, subst (Tells b n) (sym (take_whole ps path)) (tells_more b m n ps (path ∷ []) t u))
+up_to_here : (ps qs : List (List ℕ)) (path : List ℕ) (b m n : Option (List (List ℕ))) → Tells b m ps → Tells m n (path ∷ [])
+    → AsksUpTo path (ps ++ path ∷ qs) b n
+up_to_here ps qs path b m n t u =
+    (length ps, get_here ps qs path, subst (Tells b n) (sym (take_here ps qs path)) (tells_more b m n ps (path ∷ []) t u))
 
 take_behind : (ps : List (List ℕ)) (k : ℕ) (qs : List (List ℕ)) → take (length ps + k) (ps ++ qs) ≡ ps ++ take k qs
 take_behind [] k qs = let none : 0 + k ≡ k = omega arith in rw none refl
 take_behind (p ∷ ps) k qs = let one : suc (length ps) + k ≡ suc (length ps + k) = omega arith in rw one (ap (λ l. p ∷ l) (take_behind ps k qs))
 
-module _ (content : Files) (w : Words) (ps : List (List ℕ)) (b m n : Option (List (List ℕ))) (t : Tells b m ps) where
-  asks_at : (resume : Option (List ℕ)) (risen : Type 0) (why : Why) → NoLogBy content resume risen why → AsksLast why (resumed resume) m n
-      → AsksFor why ps (resumed resume) b n
-  asks_at None risen (Why.ReadFault path) c a = let bad : None ≡ Some path = c.0 in absurd cc
-  asks_at None risen (Why.TooLongInput path at) c a = let bad : None ≡ Some path = c.0 in absurd cc
-  asks_at (Some log) risen (Why.ReadFault path) c a =
-      let same : log ≡ path = cc in
-      subst (λ (q : List ℕ). AsksUpTo q (ps ++ log ∷ []) b n) same (up_to_last ps log b m n t a)
-  asks_at (Some log) risen (Why.TooLongInput path at) c a =
-      let same : log ≡ path = cc in
-      subst (λ (q : List ℕ). AsksUpTo q (ps ++ log ∷ []) b n) same (up_to_last ps log b m n t a)
-  asks_at resume risen Why.Memory c a =
-      (length ps + a.0, subst (Tells b n) (sym (take_behind ps a.0 (resumed resume))) (tells_more b m n ps (take a.0 (resumed resume)) t a.1))
-  asks_at resume risen Why.Done c a = absurd c
-  asks_at resume risen Why.Usage c a = absurd c
-  asks_at resume risen (Why.Syntax kind l k) c a = absurd c
-  asks_at resume risen (Why.Fault fault) c a = absurd c
-  asks_at resume risen (Why.Endless names) c a = absurd c
-  asks_at resume risen (Why.TooMany held given) c a = absurd c
-  asks_at resume risen Why.AllLost c a = absurd c
-  asks_at resume risen (Why.NameClash kept given) c a = absurd c
-  asks_at resume risen Why.WriteFault c a = absurd c
-  asks_at resume risen (Why.TooDeepPlain depth) c a = absurd c
-  asks_at resume risen (Why.KeepFault path) c a = absurd c
-  asks_at resume risen (Why.BadLog path at) c a = absurd c
-  asks_at resume risen (Why.OtherJob path) c a = absurd c
-  asks_at resume risen (Why.LogFull path held) c a = absurd c
+part_behind : (ps qs rest : List (List ℕ)) (b m n : Option (List (List ℕ))) → Tells b m ps → TellsPart m n qs → TellsPart b n (ps ++ (qs ++ rest))
+part_behind ps qs rest b m n t a =
+    subst (TellsPart b n) (append_assoc ps qs rest)
+    (part_of_more (ps ++ qs) rest b n
+    (length ps + a.0, subst (Tells b n) (sym (take_behind ps a.0 qs)) (tells_more b m n ps (take a.0 qs) t a.1)))
 
-  pub unread_asks : (risen : Type 0) (why : Why) → NoLogBy content w.resume risen why → AsksLast why (resumed w.resume) m n
-      → AsksFor why ps (resumed w.resume) b n
-  unread_asks risen why c a = asks_at w.resume risen why c a
+-- its path is the first of those behind
+up_to_named : (ps rest : List (List ℕ)) (o : Option (List ℕ)) (path : List ℕ) (b m n : Option (List (List ℕ))) → Tells b m ps → o ≡ Some path
+    → Tells m n (named o) → AsksUpTo path (ps ++ (named o ++ rest)) b n
+up_to_named ps rest None path b m n t e a = let bad : None ≡ Some path = e in absurd cc
+up_to_named ps rest (Some p) path b m n t e a =
+    let same : p ≡ path = cc in
+    subst (λ (q : List ℕ). AsksUpTo q (ps ++ (p ∷ rest)) b n) same (up_to_here ps rest p b m n t a)
 
--- where it wasn't read, all before it was
-module _ (content : Files) (f : Option files.Line) (b m n : Option (List (List ℕ))) (t : Tells b m (paths_in f)) (read : IsRead content f) where
-  order_at : (resume : Option (List ℕ)) (risen : Type 0) (why : Why) → NoLogBy content resume risen why → AsksLast why (resumed resume) m n
-      → StopsFor content f resume b n why
-  order_at None risen (Why.ReadFault path) c a = let bad : None ≡ Some path = c.0 in absurd cc
-  order_at None risen (Why.TooLongInput path at) c a = let bad : None ≡ Some path = c.0 in absurd cc
-  order_at (Some log) risen (Why.ReadFault path) c a =
-      let same : path ≡ log = cc in inr (same, read, tells_more b m n (paths_in f) (log ∷ []) t a)
-  order_at (Some log) risen (Why.TooLongInput path at) c a =
-      let same : path ≡ log = cc in inr (same, read, tells_more b m n (paths_in f) (log ∷ []) t a)
-  order_at resume risen Why.Memory c a = tt
-  order_at resume risen Why.Done c a = tt
-  order_at resume risen Why.Usage c a = tt
-  order_at resume risen (Why.Syntax kind l k) c a = tt
-  order_at resume risen (Why.Fault fault) c a = tt
-  order_at resume risen (Why.Endless names) c a = tt
-  order_at resume risen (Why.TooMany held given) c a = tt
-  order_at resume risen Why.AllLost c a = tt
-  order_at resume risen (Why.NameClash kept given) c a = tt
-  order_at resume risen Why.WriteFault c a = tt
-  order_at resume risen (Why.TooDeepPlain depth) c a = tt
-  order_at resume risen (Why.KeepFault path) c a = tt
-  order_at resume risen (Why.BadLog path at) c a = tt
-  order_at resume risen (Why.OtherJob path) c a = tt
-  order_at resume risen (Why.LogFull path held) c a = tt
+module _ (content : Files) (o : Option (List ℕ)) (most : ℕ) (risen : Type 0) (ps rest : List (List ℕ)) (b m n : Option (List (List ℕ)))
+    (t : Tells b m ps) where
+  pub unread_asks : (why : Why) → Unread content o most risen why → AsksLast why (named o) m n → AsksFor why ps (named o ++ rest) b n
+  unread_asks (Why.ReadFault path) c a = up_to_named ps rest o path b m n t c.0 a
+  unread_asks (Why.TooLongInput path at) c a = up_to_named ps rest o path b m n t c.0 a
+  unread_asks Why.Memory c a = part_behind ps (named o) rest b m n t a
+  unread_asks Why.Done c a = absurd c
+  unread_asks Why.Usage c a = absurd c
+  unread_asks (Why.Syntax kind l k) c a = absurd c
+  unread_asks (Why.Fault fault) c a = absurd c
+  unread_asks (Why.Endless names) c a = absurd c
+  unread_asks (Why.TooMany held given) c a = absurd c
+  unread_asks Why.AllLost c a = absurd c
+  unread_asks (Why.NameClash kept given) c a = absurd c
+  unread_asks Why.WriteFault c a = absurd c
+  unread_asks (Why.TooDeepPlain depth) c a = absurd c
+  unread_asks (Why.KeepFault path) c a = absurd c
+  unread_asks (Why.BadLog path at) c a = absurd c
+  unread_asks (Why.OtherJob path) c a = absurd c
+  unread_asks (Why.LogFull path held) c a = absurd c
+  unread_asks (Why.BadMemo path at) c a = absurd c
 
-  pub unread_order : (w : Words) (risen : Type 0) (why : Why) → NoLogBy content w.resume risen why → AsksLast why (resumed w.resume) m n
-      → StopsFor content f w.resume b n why
-  unread_order w risen why c a = order_at w.resume risen why c a
+module _ (content : Files) (w : Words) (risen : Type 0) (ps : List (List ℕ)) (b m n : Option (List (List ℕ))) (t : Tells b m ps) where
+  pub memo_asks : (why : Why) → NoMemoBy content w.memo risen why → AsksLast why (named w.memo) m n → AsksFor why ps (behind_job w) b n
+  memo_asks (Why.BadMemo path at) c a = up_to_named ps (named w.resume) w.memo path b m n t c.0 a
+  memo_asks (Why.ReadFault path) c a = up_to_named ps (named w.resume) w.memo path b m n t c.0 a
+  memo_asks (Why.TooLongInput path at) c a = up_to_named ps (named w.resume) w.memo path b m n t c.0 a
+  memo_asks Why.Memory c a = part_behind ps (named w.memo) (named w.resume) b m n t a
+  memo_asks Why.Done c a = absurd c
+  memo_asks Why.Usage c a = absurd c
+  memo_asks (Why.Syntax kind l k) c a = absurd c
+  memo_asks (Why.Fault fault) c a = absurd c
+  memo_asks (Why.Endless names) c a = absurd c
+  memo_asks (Why.TooMany held given) c a = absurd c
+  memo_asks Why.AllLost c a = absurd c
+  memo_asks (Why.NameClash kept given) c a = absurd c
+  memo_asks Why.WriteFault c a = absurd c
+  memo_asks (Why.TooDeepPlain depth) c a = absurd c
+  memo_asks (Why.KeepFault path) c a = absurd c
+  memo_asks (Why.BadLog path at) c a = absurd c
+  memo_asks (Why.OtherJob path) c a = absurd c
+  memo_asks (Why.LogFull path held) c a = absurd c
 
--- why it wasn't read is a cause
-module _ (content : Files) (w : Words) (first risen : Type 0) (later : first → risen)
-    (job : OfJobFiles content w (λ source inputs. FitsIn (files_of w) source inputs × IsSource source inputs)) where
-  named_last : (resume : Option (List ℕ)) (ps : List (List ℕ)) (path : List ℕ) → resume ≡ Some path → Contains (ps ++ resumed resume) path
-  named_last None ps path e = let bad : None ≡ Some path = e in absurd cc
-  named_last (Some log) ps path e = let same : log ≡ path = cc in subst (λ (q : List ℕ). Contains (ps ++ log ∷ []) q) same (Contains-push ps log)
+-- the log is read behind the memo
+nil_behind : (xs : List (List ℕ)) → xs ++ [] ≡ xs
+nil_behind [] = refl
+nil_behind (x ∷ xs) = ap (λ l. x ∷ l) (nil_behind xs)
 
-  pub unread_job : (why : Why) → NoLogBy content w.resume first why → NoJobBy content w risen [] why
-  unread_job (Why.ReadFault path) c = (named_last w.resume (paths_in (files_of w)) path c.0, later c.1)
-  unread_job (Why.TooLongInput path at) c = inr (c.0, c.1, c.2, job)
-  unread_job Why.Memory c = tt
-  unread_job Why.Done c = absurd c
-  unread_job Why.Usage c = absurd c
-  unread_job (Why.Syntax kind l k) c = absurd c
-  unread_job (Why.Fault fault) c = absurd c
-  unread_job (Why.Endless names) c = absurd c
-  unread_job (Why.TooMany held given) c = absurd c
-  unread_job Why.AllLost c = absurd c
-  unread_job (Why.NameClash kept given) c = absurd c
-  unread_job Why.WriteFault c = absurd c
-  unread_job (Why.TooDeepPlain depth) c = absurd c
-  unread_job (Why.KeepFault path) c = absurd c
-  unread_job (Why.BadLog path at) c = absurd c
-  unread_job (Why.OtherJob path) c = absurd c
-  unread_job (Why.LogFull path held) c = absurd c
+module _ (content : Files) (w : Words) (most : ℕ) (risen : Type 0) (ps : List (List ℕ)) (b m n : Option (List (List ℕ)))
+    (t : Tells b m (ps ++ named w.memo)) where
+  abbrev All : List (List ℕ)
+  All = (ps ++ named w.memo) ++ (named w.resume ++ [])
+
+  all_is : All ≡ ps ++ behind_job w
+  all_is = append_assoc ps (named w.memo) (named w.resume ++ []) ∙ ap (λ l. ps ++ (named w.memo ++ l)) (nil_behind (named w.resume))
+
+  pub log_asks : (why : Why) → Unread content w.resume most risen why → AsksLast why (named w.resume) m n → AsksFor why ps (behind_job w) b n
+  log_asks (Why.ReadFault path) c a =
+      subst (λ l. AsksUpTo path l b n) all_is (up_to_named (ps ++ named w.memo) [] w.resume path b m n t c.0 a)
+  log_asks (Why.TooLongInput path at) c a =
+      subst (λ l. AsksUpTo path l b n) all_is (up_to_named (ps ++ named w.memo) [] w.resume path b m n t c.0 a)
+  log_asks Why.Memory c a = subst (TellsPart b n) all_is (part_behind (ps ++ named w.memo) (named w.resume) [] b m n t a)
+  log_asks Why.Done c a = absurd c
+  log_asks Why.Usage c a = absurd c
+  log_asks (Why.Syntax kind l k) c a = absurd c
+  log_asks (Why.Fault fault) c a = absurd c
+  log_asks (Why.Endless names) c a = absurd c
+  log_asks (Why.TooMany held given) c a = absurd c
+  log_asks Why.AllLost c a = absurd c
+  log_asks (Why.NameClash kept given) c a = absurd c
+  log_asks Why.WriteFault c a = absurd c
+  log_asks (Why.TooDeepPlain depth) c a = absurd c
+  log_asks (Why.KeepFault path) c a = absurd c
+  log_asks (Why.BadLog path at) c a = absurd c
+  log_asks (Why.OtherJob path) c a = absurd c
+  log_asks (Why.LogFull path held) c a = absurd c
+  log_asks (Why.BadMemo path at) c a = absurd c
+
+-- ---- where it wasn't read, all before it was
+
+tells_named : (o : Option (List ℕ)) (path : List ℕ) (m n : Option (List (List ℕ))) → o ≡ Some path → Tells m n (named o) → Tells m n (path ∷ [])
+tells_named None path m n e a = let bad : None ≡ Some path = e in absurd cc
+tells_named (Some p) path m n e a = let same : p ≡ path = cc in subst (λ (q : List ℕ). Tells m n (q ∷ [])) same a
+
+module _ (content : Files) (f : Option files.Line) (w : Words) (risen : Type 0) (b m n : Option (List (List ℕ))) (t : Tells b m (paths_in f))
+    (read : IsRead content f) where
+  pub memo_order : (why : Why) → NoMemoBy content w.memo risen why → AsksLast why (named w.memo) m n → StopsFor content f w.memo w.resume b n why
+  memo_order (Why.ReadFault path) c a =
+      inr (inl (c.0, read, tells_more b m n (paths_in f) (path ∷ []) t (tells_named w.memo path m n c.0 a)))
+  memo_order (Why.TooLongInput path at) c a =
+      inr (inl (c.0, read, tells_more b m n (paths_in f) (path ∷ []) t (tells_named w.memo path m n c.0 a)))
+  memo_order (Why.BadMemo path at) c a = (c.0, read, tells_more b m n (paths_in f) (path ∷ []) t (tells_named w.memo path m n c.0 a))
+  memo_order Why.Memory c a = tt
+  memo_order Why.Done c a = absurd c
+  memo_order Why.Usage c a = absurd c
+  memo_order (Why.Syntax kind l k) c a = absurd c
+  memo_order (Why.Fault fault) c a = absurd c
+  memo_order (Why.Endless names) c a = absurd c
+  memo_order (Why.TooMany held given) c a = absurd c
+  memo_order Why.AllLost c a = absurd c
+  memo_order (Why.NameClash kept given) c a = absurd c
+  memo_order Why.WriteFault c a = absurd c
+  memo_order (Why.TooDeepPlain depth) c a = absurd c
+  memo_order (Why.KeepFault path) c a = absurd c
+  memo_order (Why.BadLog path at) c a = absurd c
+  memo_order (Why.OtherJob path) c a = absurd c
+  memo_order (Why.LogFull path held) c a = absurd c
+
+module _ (content : Files) (f : Option files.Line) (w : Words) (most : ℕ) (risen : Type 0) (b m n : Option (List (List ℕ)))
+    (t : Tells b m (paths_in f ++ named w.memo)) (read : IsRead content f) (recalled : IsRecalled content w.memo) where
+  last_asked : (path : List ℕ) → w.resume ≡ Some path → Tells m n (named w.resume) → Tells b n (paths_in f ++ (named w.memo ++ path ∷ []))
+  last_asked path e a =
+      subst (Tells b n) (append_assoc (paths_in f) (named w.memo) (path ∷ []))
+      (tells_more b m n (paths_in f ++ named w.memo) (path ∷ []) t (tells_named w.resume path m n e a))
+
+  pub log_order : (why : Why) → Unread content w.resume most risen why → AsksLast why (named w.resume) m n → StopsFor content f w.memo w.resume b n why
+  log_order (Why.ReadFault path) c a = inr (inr (c.0, read, recalled, last_asked path c.0 a))
+  log_order (Why.TooLongInput path at) c a = inr (inr (c.0, read, recalled, last_asked path c.0 a))
+  log_order (Why.BadMemo path at) c a = absurd c
+  log_order Why.Memory c a = tt
+  log_order Why.Done c a = absurd c
+  log_order Why.Usage c a = absurd c
+  log_order (Why.Syntax kind l k) c a = absurd c
+  log_order (Why.Fault fault) c a = absurd c
+  log_order (Why.Endless names) c a = absurd c
+  log_order (Why.TooMany held given) c a = absurd c
+  log_order Why.AllLost c a = absurd c
+  log_order (Why.NameClash kept given) c a = absurd c
+  log_order Why.WriteFault c a = absurd c
+  log_order (Why.TooDeepPlain depth) c a = absurd c
+  log_order (Why.KeepFault path) c a = absurd c
+  log_order (Why.BadLog path at) c a = absurd c
+  log_order (Why.OtherJob path) c a = absurd c
+  log_order (Why.LogFull path held) c a = absurd c
+
+-- ---- why it wasn't read is a cause
+
+has_first : (ps qs : List (List ℕ)) (o : Option (List ℕ)) (path : List ℕ) → o ≡ Some path → Contains (ps ++ (named o ++ qs)) path
+has_first ps qs None path e = let bad : None ≡ Some path = e in absurd cc
+has_first ps qs (Some p) path e =
+    let same : p ≡ path = cc in
+    subst (λ (q : List ℕ). Contains (ps ++ (p ∷ qs)) q) same
+    (subst (λ l. Contains l p) (append_assoc ps (p ∷ []) qs) (Contains-append_left (ps ++ p ∷ []) qs p (Contains-push ps p)))
+
+module _ (content : Files) (w : Words) (first risen : Type 0) (later : first → risen) (job : HasJob content w) where
+  named_memo : (path : List ℕ) → w.memo ≡ Some path → Contains (paths_in (files_of w) ++ behind_job w) path
+  named_memo path e = has_first (paths_in (files_of w)) (named w.resume) w.memo path e
+
+  named_log : (path : List ℕ) → w.resume ≡ Some path → Contains (paths_in (files_of w) ++ behind_job w) path
+  named_log path e =
+      subst (λ l. Contains l path)
+      (append_assoc (paths_in (files_of w)) (named w.memo) (named w.resume ++ []) ∙ ap (λ l. paths_in (files_of w) ++ (named w.memo ++ l))
+      (nil_behind (named w.resume)))
+      (has_first (paths_in (files_of w) ++ named w.memo) [] w.resume path e)
+
+  pub memo_job : (why : Why) → NoMemoBy content w.memo first why → NoneBefore content w risen [] why
+  memo_job (Why.ReadFault path) c = (named_memo path c.0, later c.1)
+  memo_job (Why.TooLongInput path at) c = inr (c.0, c.1, c.2, job)
+  memo_job (Why.BadMemo path at) c = (c.0, (c.1, job))
+  memo_job Why.Memory c = tt
+  memo_job Why.Done c = absurd c
+  memo_job Why.Usage c = absurd c
+  memo_job (Why.Syntax kind l k) c = absurd c
+  memo_job (Why.Fault fault) c = absurd c
+  memo_job (Why.Endless names) c = absurd c
+  memo_job (Why.TooMany held given) c = absurd c
+  memo_job Why.AllLost c = absurd c
+  memo_job (Why.NameClash kept given) c = absurd c
+  memo_job Why.WriteFault c = absurd c
+  memo_job (Why.TooDeepPlain depth) c = absurd c
+  memo_job (Why.KeepFault path) c = absurd c
+  memo_job (Why.BadLog path at) c = absurd c
+  memo_job (Why.OtherJob path) c = absurd c
+  memo_job (Why.LogFull path held) c = absurd c
+
+  pub log_job : (why : Why) → NoLogBy content w.resume first why → NoJobBy content w risen [] why
+  log_job (Why.ReadFault path) c = (named_log path c.0, later c.1)
+  log_job (Why.TooLongInput path at) c = inr (inr (c.0, c.1, c.2, job))
+  log_job (Why.BadMemo path at) c = absurd c
+  log_job Why.Memory c = tt
+  log_job Why.Done c = absurd c
+  log_job Why.Usage c = absurd c
+  log_job (Why.Syntax kind l k) c = absurd c
+  log_job (Why.Fault fault) c = absurd c
+  log_job (Why.Endless names) c = absurd c
+  log_job (Why.TooMany held given) c = absurd c
+  log_job Why.AllLost c = absurd c
+  log_job (Why.NameClash kept given) c = absurd c
+  log_job Why.WriteFault c = absurd c
+  log_job (Why.TooDeepPlain depth) c = absurd c
+  log_job (Why.KeepFault path) c = absurd c
+  log_job (Why.BadLog path at) c = absurd c
+  log_job (Why.OtherJob path) c = absurd c
+  log_job (Why.LogFull path held) c = absurd c
 
 -- ---- the names of its inputs are short, and there are few
 

@@ -1,6 +1,7 @@
 -- A line that goes on from a log, and what comes of the run that does.
 use Rattle.std.proofs.Common.{◌≡◌, ◌≢◌, ◌∙◌, ◌⊎◌, inl, inr, ℕ, List, [], true, false, Option, Some, None, Result, Err, refl, sym, ap, subst}
 use Rattle.std.proofs.lemmas.List.{append-nil}
+use Rattle.sky_base.specs.KitView.{Gives}
 use Rattle.sky_base.specs.See as s
 use Rattle.sky_base.specs.declared.object.TaskId.{TaskId}
 use Rattle.ciel_journal.specs.Entries.{Entry}
@@ -21,7 +22,6 @@ use Rattle.ciel_run_resumed.specs.Gates.{ToldSince}
 use Rattle.ciel_run_drive.specs.Told.{ToldOf}
 use Rattle.ciel_task_crew.specs.Crews.{told_at}
 use Rattle.ciel_run_resumed.specs.Resuming.{Replays}
-use Rattle.line_kit.specs.Gives.{gives}
 use Rattle.ciel_words.specs.Sound.{LineIsSound}
 use Rattle.ciel_words.specs.declared.words.Words.{Words}
 
@@ -83,17 +83,17 @@ end_some end r e n m = n (e ∙ ap end_view m)
 
 -- ---- the log that was read, as the run sees it: its header, its bytes and the plan
 
-module _ (w : Words) (source : List ℕ) (job : s.Job) (log header bytes : List ℕ) (plan : Plan) (header_is : header ≡ header_of w source job.inputs)
+module _ (g : Gives) (w : Words) (source : List ℕ) (job : s.Job) (log header bytes : List ℕ) (plan : Plan) (header_is : header ≡ header_of w source job.inputs)
     (bytes_is : bytes ≡ log) (plan_is : plan ≡ plan_of w) where
-  pub begins_own : OwnIfRead w source job.inputs job (Some log) → BeginsLog (digest_of w.names) job gives plan header bytes
+  pub begins_own : OwnIfRead g w source job.inputs job (Some log) → BeginsLog (digest_of w.names) job g plan header bytes
   begins_own own =
-      subst (λ (x : Plan × List ℕ × List ℕ). BeginsLog (digest_of w.names) job gives x.0 x.1 x.2)
+      subst (λ (x : Plan × List ℕ × List ℕ). BeginsLog (digest_of w.names) job g x.0 x.1 x.2)
       (λ i. (sym plan_is i, sym header_is i, sym bytes_is i)) (own log refl)
 
-  pub replays_log : (entries : List Entry) → Replays (digest_of w.names) job gives plan header bytes entries
-      → ReplaysLog w source job.inputs job log entries
+  pub replays_log : (entries : List Entry) → Replays (digest_of w.names) job g plan header bytes entries
+      → ReplaysLog g w source job.inputs job log entries
   replays_log entries r =
-      subst (λ (x : Plan × List ℕ × List ℕ). Replays (digest_of w.names) job gives x.0 x.1 x.2 entries)
+      subst (λ (x : Plan × List ℕ × List ℕ). Replays (digest_of w.names) job g x.0 x.1 x.2 entries)
       (λ i. (plan_is i, header_is i, bytes_is i)) r
 
   pub other_header : BeginsOther log (header_of w source job.inputs) → BeginsOther bytes header
@@ -102,10 +102,10 @@ module _ (w : Words) (source : List ℕ) (job : s.Job) (log header bytes : List 
   pub header_other : BeginsOther bytes header → BeginsOther log (header_of w source job.inputs)
   header_other o = subst (λ (x : List ℕ × List ℕ). BeginsOther x.0 x.1) (λ i. (bytes_is i, header_is i)) o
 
-  pub bad_at : (at : ℕ) → IsBadAt (digest_of w.names) job gives plan header bytes at
-      → IsBadAt (digest_of w.names) job gives (plan_of w) (header_of w source job.inputs) log at
+  pub bad_at : (at : ℕ) → IsBadAt (digest_of w.names) job g plan header bytes at
+      → IsBadAt (digest_of w.names) job g (plan_of w) (header_of w source job.inputs) log at
   bad_at at o =
-      subst (λ (x : Plan × List ℕ × List ℕ). IsBadAt (digest_of w.names) job gives x.0 x.1 x.2 at)
+      subst (λ (x : Plan × List ℕ × List ℕ). IsBadAt (digest_of w.names) job g x.0 x.1 x.2 at)
       (λ i. (plan_is i, header_is i, bytes_is i)) o
 
   abbrev Lists : Type 0
@@ -113,9 +113,9 @@ module _ (w : Words) (source : List ℕ) (job : s.Job) (log header bytes : List 
 
   -- what gates tell of a run that came to another end than want of memory
   pub onward_since : (J : List Entry) (before after : Lists)
-      → (replayed : List Entry) × (BeginsLog (digest_of w.names) job gives plan header bytes
-      → Replays (digest_of w.names) job gives plan header bytes replayed) × ToldSince replayed J before after
-      → OnwardTold (λ replayed. OwnIfRead w source job.inputs job (Some log) → ReplaysLog w source job.inputs job log replayed) J before after
+      → (replayed : List Entry) × (BeginsLog (digest_of w.names) job g plan header bytes
+      → Replays (digest_of w.names) job g plan header bytes replayed) × ToldSince replayed J before after
+      → OnwardTold (λ replayed. OwnIfRead g w source job.inputs job (Some log) → ReplaysLog g w source job.inputs job log replayed) J before after
   onward_since J before after x = inr (x.0, λ own. replays_log x.0 (x.1 (begins_own own)), x.2)
 
 -- ---- what gates tell, by the log that was read
@@ -128,9 +128,9 @@ still (Some ts) = (ts, refl, [], sym (append-nil ts), refl)
 pub told_still : (xs : List (Option (List TaskId))) → ToldBy [] xs xs
 told_still xs = (refl, λ w l. still (told_at xs w))
 
-module _ (w : Words) (source : List ℕ) (job : s.Job) (log : Option (List ℕ)) (J : List Entry) (before after : List (Option (List TaskId))) where
+module _ (g : Gives) (w : Words) (source : List ℕ) (job : s.Job) (log : Option (List ℕ)) (J : List Entry) (before after : List (Option (List TaskId))) where
   abbrev pub Replayed : List Entry → Type 0
-  Replayed replayed = (bytes : List ℕ) → log ≡ Some bytes → OwnIfRead w source job.inputs job log → ReplaysLog w source job.inputs job bytes replayed
+  Replayed replayed = (bytes : List ℕ) → log ≡ Some bytes → OwnIfRead g w source job.inputs job log → ReplaysLog g w source job.inputs job bytes replayed
 
   pub told_alone : w.resume ≡ None → ToldBy J before after → SurelyAt w.resume (ToldBy J before after) (OnwardTold Replayed J before after)
   told_alone alone t = surely_alone w.resume (ToldBy J before after) (OnwardTold Replayed J before after) alone t
@@ -139,19 +139,19 @@ module _ (w : Words) (source : List ℕ) (job : s.Job) (log : Option (List ℕ))
     some_same : (bytes : List ℕ) → Some own ≡ Some bytes → own ≡ bytes
     some_same bytes e = cc
 
-    pub own_read : OwnIfRead w source job.inputs job log → OwnIfRead w source job.inputs job (Some own)
-    own_read o = subst (OwnIfRead w source job.inputs job) is o
+    pub own_read : OwnIfRead g w source job.inputs job log → OwnIfRead g w source job.inputs job (Some own)
+    own_read o = subst (OwnIfRead g w source job.inputs job) is o
 
-    replayed : OnwardTold (λ es. OwnIfRead w source job.inputs job (Some own) → ReplaysLog w source job.inputs job own es) J before after
+    replayed : OnwardTold (λ es. OwnIfRead g w source job.inputs job (Some own) → ReplaysLog g w source job.inputs job own es) J before after
         → OnwardTold Replayed J before after
     replayed (inl n) = inl n
     replayed (inr x) = inr (
       x.0,
-      λ bytes l o. subst (λ (b : List ℕ). ReplaysLog w source job.inputs job b x.0) (some_same bytes (sym is ∙ l)) (x.1 (own_read o)),
+      λ bytes l o. subst (λ (b : List ℕ). ReplaysLog g w source job.inputs job b x.0) (some_same bytes (sym is ∙ l)) (x.1 (own_read o)),
       x.2,
     )
 
-    pub told_onward : OnwardTold (λ es. OwnIfRead w source job.inputs job (Some own) → ReplaysLog w source job.inputs job own es) J before after
+    pub told_onward : OnwardTold (λ es. OwnIfRead g w source job.inputs job (Some own) → ReplaysLog g w source job.inputs job own es) J before after
         → SurelyAt w.resume (ToldBy J before after) (OnwardTold Replayed J before after)
     told_onward t = surely_onward w.resume (ToldBy J before after) (OnwardTold Replayed J before after) path onward (replayed t)
 

@@ -16,6 +16,7 @@ use Rattle.ciel_run_load.specs.Loading.{IsOf}
 use Rattle.ciel_run_logged.specs.Told.{ToldBy}
 use Rattle.ciel_run_line.specs.Causes.{HasBadRecord}
 use Rattle.ciel_run_line.specs.Gates.{GatesTell}
+use Rattle.ciel_run_line.specs.Given.{GivesOf}
 use Rattle.ciel_run_line.specs.Keeping.{header_of}
 use Rattle.ciel_run_line.specs.Line.{FitsIn, OfJobFiles, OfLine, Stands, SurelyAt, files_of}
 use Rattle.ciel_run_line.specs.Resuming.{IsOwnLog, OnwardTold, OwnIfRead, ReplaysLog}
@@ -25,12 +26,11 @@ use Rattle.ciel_run_line.proofs.Comes.{of_job}
 use Rattle.ciel_run_line.proofs.Written.{none_bad, own_log}
 use Rattle.ciel_words.specs.Sound.{LineIsSound}
 use Rattle.ciel_words.specs.declared.words.Words.{Words}
-use Rattle.line_kit.specs.Gives.{gives}
 
 -- a record that stands whole at the beginning of such a log is the header: no block begins another one
-pub not_other : (digest : List ℕ → List ℕ) (job : s.Job) (gives : Gives) (p : Plan) (header bytes : List ℕ)
-    → BeginsWritten digest job gives p header bytes → BeginsOther bytes header → ⊥
-not_other digest job gives p header bytes own other =
+pub not_other : (digest : List ℕ → List ℕ) (job : s.Job) (g : Gives) (p : Plan) (header bytes : List ℕ)
+    → BeginsWritten digest job g p header bytes → BeginsOther bytes header → ⊥
+not_other digest job g p header bytes own other =
     let first = other.0 in
     let behind = drop other.1 bytes in
     let rest = own.prefix.0 in
@@ -40,14 +40,15 @@ not_other digest job gives p header bytes own other =
 
 -- and none of its records is a bad one
 pub no_bad_record : (content : List ℕ → Option (List ℕ)) (w : Words) (path : List ℕ) (at : ℕ) → w.resume ≡ Some path → HasBadRecord content w path at
-    → (source : List ℕ) (inputs : List Input) → Stands content w source inputs → ⊥
-no_bad_record content w path at e bad source inputs st =
-    let x = bad source inputs st.there in
-    let own = st.own path e x.0 x.1.0 x.1.1 in none_bad w source inputs (job_of x.1.0 inputs) own.0 at (x.1.2 own.0 own.1) own.2
+    → (g : Gives) → GivesOf content w g → (source : List ℕ) (inputs : List Input) → Stands g content w source inputs → ⊥
+no_bad_record content w path at e bad g given source inputs st =
+    let x = bad g given source inputs st.there in
+    let own = st.own path e x.0 x.1.0 x.1.1 in none_bad g w source inputs (job_of x.1.0 inputs) own.0 at (x.1.2 own.0 own.1) own.2
 
 -- ---- the log that was read, where one was
 
-module _ (content : List ℕ → Option (List ℕ)) (w : Words) (sound : LineIsSound w) (read : List ℕ) (job : s.Job) (log : Option (List ℕ))
+module _ (g : Gives) (content : List ℕ → Option (List ℕ)) (w : Words) (sound : LineIsSound w) (read : List ℕ) (job : s.Job)
+    (log : Option (List ℕ))
     (t : OfJobFiles content w (λ source inputs. FitsIn (files_of w) source inputs × IsOf source inputs job × (read ≡ source)))
     (some : is_some log ≡ is_some w.resume)
     (found : IfSome log (λ b. IfSome w.resume (λ path. IfSome (content path) (λ file. b ≡ file)))) where
@@ -69,22 +70,22 @@ module _ (content : List ℕ → Option (List ℕ)) (w : Words) (sound : LineIsS
       at (Some b) q = q ∙ ap (λ (x : List ℕ). Some x) (same_bytes path b bytes e q there)
 
   -- nothing is asked of it where none is gone on from
-  pub own_alone : w.resume ≡ None → OwnIfRead w read job.inputs job log
+  pub own_alone : w.resume ≡ None → OwnIfRead g w read job.inputs job log
   own_alone e bytes l = absurd (no_both (sym (ap is_some l) ∙ some ∙ ap is_some e))
 
   -- it is one of a run of the job that was read
-  pub own_onward : (source : List ℕ) (inputs : List Input) → Stands content w source inputs → OwnIfRead w read job.inputs job log
+  pub own_onward : (source : List ℕ) (inputs : List Input) → Stands g content w source inputs → OwnIfRead g w read job.inputs job log
   own_onward source inputs st bytes l = at w.resume refl
     where
-      at : (o : Option (List ℕ)) → w.resume ≡ o → IsOwnLog w read job.inputs job bytes
+      at : (o : Option (List ℕ)) → w.resume ≡ o → IsOwnLog g w read job.inputs job bytes
       at None e = own_alone e bytes l
       at (Some path) e =
           let here = t source inputs st.there in
           let o = st.own path e here.0 job.script here.1.0 in
           let same : bytes ≡ o.0 = same_bytes path bytes o.0 e l o.1 in
-          subst (λ (x : List ℕ × List Input × List ℕ). IsOwnLog w x.0 x.1 (job_of job.script x.1) x.2)
+          subst (λ (x : List ℕ × List Input × List ℕ). IsOwnLog g w x.0 x.1 (job_of job.script x.1) x.2)
           (λ i. (sym here.2 i, sym here.1.1 i, sym same i))
-          (own_log content w sound source inputs st.there here.0 (job_of job.script inputs) here.1.0 o.0 o.2)
+          (own_log content w sound g source inputs st.there here.0 (job_of job.script inputs) here.1.0 o.0 o.2)
 
   -- ---- what gates tell
 
@@ -92,14 +93,14 @@ module _ (content : List ℕ → Option (List ℕ)) (w : Words) (sound : LineIsS
   Lists = List (Option (List TaskId))
 
   abbrev ReadReplays : List Entry → Type 0
-  ReadReplays replayed = (bytes : List ℕ) → log ≡ Some bytes → OwnIfRead w read job.inputs job log → ReplaysLog w read job.inputs job bytes replayed
+  ReadReplays replayed = (bytes : List ℕ) → log ≡ Some bytes → OwnIfRead g w read job.inputs job log → ReplaysLog g w read job.inputs job bytes replayed
 
   abbrev FileReplays : List ℕ → List Input → List Entry → Type 0
   FileReplays source inputs replayed =
       OfJob source inputs (λ j. (path : List ℕ) (bytes : List ℕ) → w.resume ≡ Some path → content path ≡ Some bytes
-      → ReplaysLog w source inputs j bytes replayed)
+      → ReplaysLog g w source inputs j bytes replayed)
 
-  onward_of : (source : List ℕ) (inputs : List Input) → Stands content w source inputs → (J : List Entry) (before after : Lists)
+  onward_of : (source : List ℕ) (inputs : List Input) → Stands g content w source inputs → (J : List Entry) (before after : Lists)
       → OnwardTold ReadReplays J before after → OnwardTold (FileReplays source inputs) J before after
   onward_of source inputs st J before after (inl n) = inl n
   onward_of source inputs st J before after (inr x) =
@@ -107,17 +108,30 @@ module _ (content : List ℕ → Option (List ℕ)) (w : Words) (sound : LineIsS
       inr (
         x.0,
         of_job source inputs job (λ j. (path : List ℕ) (bytes : List ℕ) → w.resume ≡ Some path → content path ≡ Some bytes
-            → ReplaysLog w source inputs j bytes x.0) here.1
-            (λ path bytes e there. subst (λ (y : List ℕ × List Input). ReplaysLog w y.0 y.1 job bytes x.0) (λ i. (here.2 i, here.1.1 i))
+            → ReplaysLog g w source inputs j bytes x.0) here.1
+            (λ path bytes e there. subst (λ (y : List ℕ × List Input). ReplaysLog g w y.0 y.1 job bytes x.0) (λ i. (here.2 i, here.1.1 i))
             (x.1 bytes (log_is path bytes e there) (own_onward source inputs st))),
         x.2,
       )
 
-  pub gates_tell : (J : List Entry) (before after : Lists)
-      → SurelyAt w.resume (ToldBy J before after) (OnwardTold ReadReplays J before after) → GatesTell content (Some w) J before after
-  gates_tell J before after told = at w.resume told
-    where
-      at : (o : Option (List ℕ)) → SurelyAt o (ToldBy J before after) (OnwardTold ReadReplays J before after)
-          → SurelyAt o (ToldBy J before after) (OfLine content w (λ source inputs. OnwardTold (FileReplays source inputs) J before after))
-      at None x = x
-      at (Some path) x = λ source inputs st. onward_of source inputs st J before after x
+  module _ (same : (h : Gives) → GivesOf content w h → h ≡ g) where
+    -- where files tell all that the line reads
+    pub own_line : OfLine content w (λ h source inputs. OwnIfRead g w read job.inputs job log)
+    own_line h given source inputs st =
+        own_onward source inputs (subst (λ (k : Gives). Stands k content w source inputs) (same h given) st)
+
+    abbrev ReplaysBy : Gives → List ℕ → List Input → List Entry → Type 0
+    ReplaysBy h source inputs replayed =
+        OfJob source inputs (λ j. (path : List ℕ) (bytes : List ℕ) → w.resume ≡ Some path → content path ≡ Some bytes
+        → ReplaysLog h w source inputs j bytes replayed)
+
+    pub gates_tell : (J : List Entry) (before after : Lists)
+        → SurelyAt w.resume (ToldBy J before after) (OnwardTold ReadReplays J before after) → GatesTell content (Some w) J before after
+    gates_tell J before after told = at w.resume told
+      where
+        at : (o : Option (List ℕ)) → SurelyAt o (ToldBy J before after) (OnwardTold ReadReplays J before after)
+            → SurelyAt o (ToldBy J before after) (OfLine content w (λ h source inputs. OnwardTold (ReplaysBy h source inputs) J before after))
+        at None x = x
+        at (Some path) x = λ h given source inputs st.
+            subst (λ (k : Gives). OnwardTold (ReplaysBy k source inputs) J before after) (sym (same h given))
+            (onward_of source inputs (subst (λ (k : Gives). Stands k content w source inputs) (same h given) st) J before after x)

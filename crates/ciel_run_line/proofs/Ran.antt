@@ -1,6 +1,7 @@
 -- What a job comes to, by the sequential interpreter or on the engine, is what is said of a job that ran.
 use Rattle.std.proofs.Common.{◌≡◌, ◌<◌, ◌≤◌, ◌^◌, ℕ, List, [], true, false, inl, inr, Option, Some, None, Result, Ok, Err, IfErr, IfOk, length, refl}
 use Rattle.std.proofs.Common.{sym, ap, subst, ◌∙◌, arith}
+use Rattle.sky_base.specs.KitView.{Gives}
 use Rattle.sky_base.specs.See as s
 use Rattle.sky_base.specs.See.{Answered}
 use Rattle.ciel_run_logged.specs.Onward.{IsRead}
@@ -10,15 +11,14 @@ use Rattle.ciel_run_load.specs.Loading.{IsReadJob}
 use Rattle.ciel_master.specs.declared.stop.RunEnd.{RunEnd}
 use Rattle.ciel_task_order.specs.Shop.{InputsInOrder}
 use Rattle.ciel_words.specs.declared.words.Words.{Words}
-use Rattle.line_kit.specs.Gives.{gives}
 use Rattle.ciel_run_line.specs.Answering.{CanRunJob, PlainCause, end_view}
 use Rattle.ciel_run_line.specs.Causes.{AnswersSo, JobCause, Way, WaySo}
 use Rattle.ciel_run_line.specs.Runs.{digest_of, log_path, plan_of}
-use Rattle.ciel_run_line.specs.Source.{over_lines}
+use Rattle.ciel_run_line.specs.Source.{around}
 use Rattle.ciel_run_log.specs.declared.why.Why.{Why}
 
-module _ (w : Words) (job : s.Job) where
-  plain_cause : w.plain ≡ true → (why : Why) → PlainCause job why → JobCause w [] job why
+module _ (g : Gives) (w : Words) (job : s.Job) where
+  plain_cause : w.plain ≡ true → (why : Why) → PlainCause g job why → JobCause g w [] job why
   plain_cause p (Why.Fault fault) c = c
   plain_cause p (Why.TooMany held None) c = (p, c.0, c.1)
   plain_cause p (Why.TooMany held (Some given)) c = absurd c
@@ -35,12 +35,13 @@ module _ (w : Words) (job : s.Job) where
   plain_cause p (Why.TooLongInput path at) c = absurd c
   plain_cause p (Why.KeepFault path) c = absurd c
   plain_cause p (Why.BadLog path at) c = absurd c
+  plain_cause p (Why.BadMemo path at) c = absurd c
   plain_cause p (Why.OtherJob path) c = absurd c
   plain_cause p (Why.LogFull path held) c = absurd c
 
   -- by the sequential interpreter
-  pub plain_answers : w.plain ≡ true → (r : Result (List ℕ) Why) → IfOk r (λ b. s.Means job over_lines (Answered.bytes b)) → IfErr r (PlainCause job)
-      → AnswersSo w [] job r
+  pub plain_answers : w.plain ≡ true → (r : Result (List ℕ) Why) → IfOk r (λ b. s.Means job (around g) (Answered.bytes b)) → IfErr r (PlainCause g job)
+      → AnswersSo g w [] job r
   plain_answers p (Ok b) m c = record {
     bytes = m;
     none = tt;
@@ -55,7 +56,7 @@ module _ (w : Words) (job : s.Job) where
   }
 
   -- where no run began, for want of memory
-  pub memory_answers : AnswersSo w [] job (Err Why.Memory)
+  pub memory_answers : AnswersSo g w [] job (Err Why.Memory)
   memory_answers = record {
     bytes = tt;
     none = tt;
@@ -64,7 +65,7 @@ module _ (w : Words) (job : s.Job) where
   }
 
   -- where the log couldn't be begun
-  pub unbegun_answers : (path : List ℕ) → AnswersSo w [] job (Err (Why.KeepFault path))
+  pub unbegun_answers : (path : List ℕ) → AnswersSo g w [] job (Err (Why.KeepFault path))
   unbegun_answers path = record {
     bytes = tt;
     none = tt;
@@ -74,7 +75,7 @@ module _ (w : Words) (job : s.Job) where
 
   module _ (J : List Entry) (p : w.plain ≡ false) where
     -- on the engine
-    pub run_answers : (end : RunEnd) → EndsSo (digest_of w.names) job gives (plan_of w) J end → AnswersSo w J job (end_view end)
+    pub run_answers : (end : RunEnd) → EndsSo (digest_of w.names) job g (plan_of w) J end → AnswersSo g w J job (end_view end)
     run_answers (RunEnd.Answer text) e = record {
       bytes = e.cause.0;
       none = tt;
@@ -121,29 +122,30 @@ module _ (w : Words) (job : s.Job) where
 -- ---- by which way
 
 module _ (w : Words) where
-  plain_way : (job : s.Job) → w.plain ≡ true → (why : Why) → PlainCause job why → Way w [] why
-  plain_way job p (Why.Fault fault) c = tt
-  plain_way job p (Why.TooMany held None) c = p
-  plain_way job p (Why.TooMany held (Some given)) c = absurd c
-  plain_way job p (Why.TooDeepPlain depth) c = p
-  plain_way job p Why.Memory c = tt
-  plain_way job p Why.Done c = absurd c
-  plain_way job p Why.Usage c = absurd c
-  plain_way job p (Why.Syntax kind line col) c = absurd c
-  plain_way job p (Why.Endless names) c = absurd c
-  plain_way job p Why.AllLost c = absurd c
-  plain_way job p (Why.NameClash kept given) c = absurd c
-  plain_way job p (Why.ReadFault path) c = absurd c
-  plain_way job p Why.WriteFault c = absurd c
-  plain_way job p (Why.TooLongInput path at) c = absurd c
-  plain_way job p (Why.KeepFault path) c = absurd c
-  plain_way job p (Why.BadLog path at) c = absurd c
-  plain_way job p (Why.OtherJob path) c = absurd c
-  plain_way job p (Why.LogFull path held) c = absurd c
+  plain_way : (g : Gives) (job : s.Job) → w.plain ≡ true → (why : Why) → PlainCause g job why → Way w [] why
+  plain_way g job p (Why.Fault fault) c = tt
+  plain_way g job p (Why.TooMany held None) c = p
+  plain_way g job p (Why.TooMany held (Some given)) c = absurd c
+  plain_way g job p (Why.TooDeepPlain depth) c = p
+  plain_way g job p Why.Memory c = tt
+  plain_way g job p Why.Done c = absurd c
+  plain_way g job p Why.Usage c = absurd c
+  plain_way g job p (Why.Syntax kind line col) c = absurd c
+  plain_way g job p (Why.Endless names) c = absurd c
+  plain_way g job p Why.AllLost c = absurd c
+  plain_way g job p (Why.NameClash kept given) c = absurd c
+  plain_way g job p (Why.ReadFault path) c = absurd c
+  plain_way g job p Why.WriteFault c = absurd c
+  plain_way g job p (Why.TooLongInput path at) c = absurd c
+  plain_way g job p (Why.KeepFault path) c = absurd c
+  plain_way g job p (Why.BadLog path at) c = absurd c
+  plain_way g job p (Why.BadMemo path at) c = absurd c
+  plain_way g job p (Why.OtherJob path) c = absurd c
+  plain_way g job p (Why.LogFull path held) c = absurd c
 
-  pub plain_ways : (job : s.Job) → w.plain ≡ true → (r : Result (List ℕ) Why) → IfErr r (PlainCause job) → WaySo w [] r
-  plain_ways job p (Ok b) c = record { way = tt; plain = λ e. refl }
-  plain_ways job p (Err why) c = record { way = plain_way job p why c; plain = λ e. refl }
+  pub plain_ways : (g : Gives) (job : s.Job) → w.plain ≡ true → (r : Result (List ℕ) Why) → IfErr r (PlainCause g job) → WaySo w [] r
+  plain_ways g job p (Ok b) c = record { way = tt; plain = λ e. refl }
+  plain_ways g job p (Err why) c = record { way = plain_way g job p why c; plain = λ e. refl }
 
   pub memory_ways : WaySo w [] (Err Why.Memory)
   memory_ways = record { way = tt; plain = λ e. refl }

@@ -1,5 +1,6 @@
 -- What a line comes to whose log wasn't gone on from.
 use Rattle.std.proofs.Common.{◌≡◌, ◌≢◌, ◌⊎◌, ⊎_elim, ℕ, List, [], true, false, ap, inl, inr, Option, Some, None, Result, Ok, Err, IfErr, refl, sym, subst, ◌∙◌}
+use Rattle.sky_base.specs.KitView.{Gives}
 use Rattle.sky_base.specs.See as s
 use Rattle.ciel_journal.specs.Entries.{Entry}
 use Rattle.ciel_log_file.specs.Whole.{BeginsOther}
@@ -14,7 +15,6 @@ use Rattle.ciel_run_line.specs.Runs.{digest_of, log_path, plan_of}
 use Rattle.ciel_run_log.specs.declared.why.Why.{Why}
 use Rattle.ciel_run_resumed.specs.declared.run.NotResumed.{NotResumed}
 use Rattle.ciel_words.specs.declared.words.Words.{Words}
-use Rattle.line_kit.specs.Gives.{gives}
 
 -- what is so of each end that it may have, by what was said of the log
 pub by_why : (path : List ℕ) (P : NotResumed → Why → Type 0) → P NotResumed.OtherJob (Why.OtherJob path)
@@ -47,9 +47,9 @@ why_memory NotResumed.Memory path = refl
 
 module _ (w : Words) (path : List ℕ) (not : NotResumed) (why : Why) (y : WhyNot not path why) where
   -- nothing is said of the job
-  pub refused_answers : (job : s.Job) → AnswersSo w [] job (Err why)
-  refused_answers job =
-      by_why path (λ n e. AnswersSo w [] job (Err e)) (record { bytes = tt; none = tt; driven = inl refl; root = λ q. tt })
+  pub refused_answers : (g : Gives) (job : s.Job) → AnswersSo g w [] job (Err why)
+  refused_answers g job =
+      by_why path (λ n e. AnswersSo g w [] job (Err e)) (record { bytes = tt; none = tt; driven = inl refl; root = λ q. tt })
       (λ at. record { bytes = tt; none = tt; driven = inl refl; root = λ q. tt }) (record { bytes = tt; none = tt; driven = inl refl; root = λ q. tt })
       (λ n. record { bytes = tt; none = tt; driven = inl refl; root = λ q. tt }) not why y
 
@@ -60,14 +60,14 @@ module _ (w : Words) (path : List ℕ) (not : NotResumed) (why : Why) (y : WhyNo
   }
 
   -- why the log wasn't gone on from
-  module _ (source : List ℕ) (job : s.Job) (log : List ℕ) (other : not ≡ NotResumed.OtherJob → BeginsOther log (header_of w source job.inputs))
+  module _ (g : Gives) (source : List ℕ) (job : s.Job) (log : List ℕ) (other : not ≡ NotResumed.OtherJob → BeginsOther log (header_of w source job.inputs))
       (bad : (at : ℕ) → not ≡ NotResumed.BadLog at
-      → IsBadAt (digest_of w.names) job gives (plan_of w) (header_of w source job.inputs) log at) where
-    pub refused_cause : RefusesLog w source job (Some log) why
+      → IsBadAt (digest_of w.names) job g (plan_of w) (header_of w source job.inputs) log at) where
+    pub refused_cause : RefusesLog g w source job (Some log) why
     refused_cause =
-        by_why path (λ n e. n ≡ not → RefusesLog w source job (Some log) e)
+        by_why path (λ n e. n ≡ not → RefusesLog g w source job (Some log) e)
         (λ is bytes same. subst (λ (b : List ℕ). BeginsOther b (header_of w source job.inputs)) (some_same log bytes same) (other (sym is)))
-        (λ at is bytes same. subst (λ (b : List ℕ). IsBadAt (digest_of w.names) job gives (plan_of w) (header_of w source job.inputs) b at)
+        (λ at is bytes same. subst (λ (b : List ℕ). IsBadAt (digest_of w.names) job g (plan_of w) (header_of w source job.inputs) b at)
         (some_same log bytes same) (bad at (sym is)))
         (λ is. tt) (λ n is. tt) not why y refl
       where
@@ -98,23 +98,24 @@ module _ (w : Words) (path : List ℕ) (not : NotResumed) (why : Why) (y : WhyNo
       no_both q = cc
 
 -- of the end of a run nothing is said of the log
-pub end_refuses : (w : Words) (source : List ℕ) (job : s.Job) (log : Option (List ℕ)) (end : RunEnd) → IfErr (end_view end) (RefusesLog w source job log)
-end_refuses w source job log (RunEnd.Answer text) = tt
-end_refuses w source job log (RunEnd.Fault fault) = tt
-end_refuses w source job log (RunEnd.Endless names) = tt
-end_refuses w source job log (RunEnd.TooMany held given) = tt
-end_refuses w source job log RunEnd.AllLost = tt
-end_refuses w source job log (RunEnd.NameClash kept given) = tt
-end_refuses w source job log RunEnd.Memory = tt
+pub end_refuses : (g : Gives) (w : Words) (source : List ℕ) (job : s.Job) (log : Option (List ℕ)) (end : RunEnd) → IfErr (end_view end) (RefusesLog g w source job log)
+end_refuses g w source job log (RunEnd.Answer text) = tt
+end_refuses g w source job log (RunEnd.Fault fault) = tt
+end_refuses g w source job log (RunEnd.Endless names) = tt
+end_refuses g w source job log (RunEnd.TooMany held given) = tt
+end_refuses g w source job log RunEnd.AllLost = tt
+end_refuses g w source job log (RunEnd.NameClash kept given) = tt
+end_refuses g w source job log RunEnd.Memory = tt
 
 -- nor is any of a line that goes on from none
-module _ (w : Words) (J : List Entry) (alone : w.resume ≡ None) (source : List ℕ) (job : s.Job) (log : Option (List ℕ)) where
+module _ (g : Gives) (w : Words) (J : List Entry) (alone : w.resume ≡ None) (source : List ℕ) (job : s.Job) (log : Option (List ℕ)) where
   none_named : (path : List ℕ) → w.resume ≡ Some path → ⊥
   none_named path e = let bad : None ≡ Some path = sym alone ∙ e in cc
 
-  alone_why : (why : Why) → Way w J why → RefusesLog w source job log why
+  alone_why : (why : Why) → Way w J why → RefusesLog g w source job log why
   alone_why (Why.BadLog path at) v = absurd (none_named path v.1)
   alone_why (Why.OtherJob path) v = absurd (none_named path v.1)
+  alone_why (Why.BadMemo path at) v = tt
   alone_why Why.Done v = tt
   alone_why Why.Usage v = tt
   alone_why (Why.Syntax kind line col) v = tt
@@ -131,6 +132,6 @@ module _ (w : Words) (J : List Entry) (alone : w.resume ≡ None) (source : List
   alone_why (Why.KeepFault path) v = tt
   alone_why (Why.LogFull path held) v = tt
 
-  pub alone_refuses : (r : Result (List ℕ) Why) → WaySo w J r → IfErr r (RefusesLog w source job log)
+  pub alone_refuses : (r : Result (List ℕ) Why) → WaySo w J r → IfErr r (RefusesLog g w source job log)
   alone_refuses (Ok b) x = tt
   alone_refuses (Err why) x = alone_why why x.way

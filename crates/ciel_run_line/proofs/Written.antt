@@ -2,6 +2,7 @@
 use Rattle.std.proofs.Common.{◌≡◌, ◌≤◌, ◌<◌, ℕ, List, inl, inr, Option, Some, None, length, refl, ap, arith}
 use Rattle.sha1.specs.Sha1.{digest_bytes, sha1}
 use Rattle.sha2.proofs.Facts256.{length-sha256}
+use Rattle.sky_base.specs.KitView.{Gives}
 use Rattle.sky_base.specs.Name.{canon, digested}
 use Rattle.sky_base.specs.See as s
 use Rattle.sky_parse.specs.Source.{IsScript}
@@ -20,7 +21,6 @@ use Rattle.ciel_run_line.specs.Keeping.{header_of}
 use Rattle.ciel_run_line.specs.Line.{FitsIn, StandsIn, files_of}
 use Rattle.ciel_run_line.specs.Resuming.{IsBadRecord, IsOwnLog, IsWrittenLog}
 use Rattle.ciel_run_line.specs.Runs.{digest_of, plan_of}
-use Rattle.line_kit.specs.Gives.{gives}
 
 sha1_length : (m : List ℕ) → length (sha1 m) ≡ 20
 unfolding sha1 digest_bytes
@@ -38,7 +38,7 @@ short_source content None (Some lines) source inputs there fits =
     let e = ap length there.0 in let few : length generator ≤ 1048576 = omega arith in omega (arith, e, few)
 short_source content None None source inputs there fits = absurd there
 
-module _ (content : List ℕ → Option (List ℕ)) (w : Words) (sound : LineIsSound w) (source : List ℕ) (inputs : List Input)
+module _ (content : List ℕ → Option (List ℕ)) (w : Words) (sound : LineIsSound w) (g : Gives) (source : List ℕ) (inputs : List Input)
     (there : StandsIn content (files_of w) w.generate source inputs) (fits : FitsIn (files_of w) source inputs) (job : s.Job)
     (script : IsScript source (keys_of inputs) job.script) where
   writable : IsWritable (digest_of w.names) job (plan_of w)
@@ -55,12 +55,12 @@ module _ (content : List ℕ → Option (List ℕ)) (w : Words) (sound : LineIsS
       }
 
   -- so what begins one can be gone on from
-  pub own_log : (bytes : List ℕ) → IsWrittenLog w source inputs job bytes → IsOwnLog w source inputs job bytes
-  own_log bytes b = begins (digest_of w.names) job gives (plan_of w) writable (header_of w source inputs) bytes b
+  pub own_log : (bytes : List ℕ) → IsWrittenLog g w source inputs job bytes → IsOwnLog g w source inputs job bytes
+  own_log bytes b = begins (digest_of w.names) job g (plan_of w) writable (header_of w source inputs) bytes b
 
   -- and a bad record is one, whether others can be read or not
-  pub bad_record : (bytes : List ℕ) (at : ℕ) → IsBadAt (digest_of w.names) job gives (plan_of w) (header_of w source inputs) bytes at
-      → IsBadRecord w source inputs job bytes at
+  pub bad_record : (bytes : List ℕ) (at : ℕ) → IsBadAt (digest_of w.names) job g (plan_of w) (header_of w source inputs) bytes at
+      → IsBadRecord g w source inputs job bytes at
   bad_record bytes at b =
       record {
         records = b.records;
@@ -72,9 +72,9 @@ module _ (content : List ℕ → Option (List ℕ)) (w : Words) (sound : LineIsS
       }
 
 -- what begins such a log has no bad record
-pub none_bad : (w : Words) (source : List ℕ) (inputs : List Input) (job : s.Job) (bytes : List ℕ) (at : ℕ)
-    → IsBadRecord w source inputs job bytes at → IsWrittenLog w source inputs job bytes → ⊥
-none_bad w source inputs job bytes at bad b =
+pub none_bad : (g : Gives) (w : Words) (source : List ℕ) (inputs : List Input) (job : s.Job) (bytes : List ℕ) (at : ℕ)
+    → IsBadRecord g w source inputs job bytes at → IsWrittenLog g w source inputs job bytes → ⊥
+none_bad g w source inputs job bytes at bad b =
     bad.cause (record {
       journal = b.journal;
       all = b.all;

@@ -4,7 +4,8 @@ use Rattle.ciel_io.specs.Tells.{Tells, TellsPart}
 use Rattle.ciel_run_load.specs.Line as files
 use Rattle.ciel_run_load.specs.Loading.{AllRead, StopsAt}
 use Rattle.ciel_run_load.specs.Reading.{AsksUpTo}
-use Rattle.ciel_run_line.specs.Line.{paths_in}
+use Rattle.ciel_run_line.specs.Given.{IsRecalled}
+use Rattle.ciel_run_line.specs.Line.{named, paths_in}
 use Rattle.ciel_run_log.specs.declared.why.Why.{Why}
 
 -- ---- which run began
@@ -18,6 +19,7 @@ NoRun plain (Why.TooLongInput path at) = Unit {0}
 NoRun plain (Why.TooDeepPlain depth) = Unit {0}
 NoRun plain (Why.BadLog path at) = Unit {0}
 NoRun plain (Why.OtherJob path) = Unit {0}
+NoRun plain (Why.BadMemo path at) = Unit {0}
 NoRun plain _ = plain ≡ true
 
 -- of a result, where none is there; where the log couldn't be begun, none began
@@ -42,12 +44,13 @@ ShowsResult (Err why) = ShowsEnd why
 
 -- where the paths asked are told, they grew by all paths of the words, those of the job's files and then the others; by the script's alone
 -- where it is none, by those up to the one that could not be read, or for want of memory by some of the first; words that are no line name
--- none
+-- none; a memo's file that is none is the last one asked
 abbrev pub AsksFor : Why → (job others : List (List ℕ)) → Option (List (List ℕ)) → Option (List (List ℕ)) → Type 0
 AsksFor Why.Memory job others before now = TellsPart before now (job ++ others)
 AsksFor (Why.Syntax kind line col) job others before now = Tells before now (take 1 job)
 AsksFor (Why.ReadFault path) job others before now = AsksUpTo path (job ++ others) before now
 AsksFor (Why.TooLongInput path at) job others before now = AsksUpTo path (job ++ others) before now
+AsksFor (Why.BadMemo path at) job others before now = AsksUpTo path (job ++ others) before now
 AsksFor _ job others before now = Tells before now (job ++ others)
 
 abbrev pub AsksOf : Result (List ℕ) Why → (job others : List (List ℕ)) → Option (List (List ℕ)) → Option (List (List ℕ)) → Type 0
@@ -66,16 +69,22 @@ abbrev pub IsRead : (List ℕ → Option (List ℕ)) → Option files.Line → T
 IsRead content None = Unit {0}
 IsRead content (Some f) = AllRead content f
 
--- or it is the log that is gone on from, and all before it was read
-abbrev pub StopsLast : (List ℕ → Option (List ℕ)) → Option files.Line → (resume : Option (List ℕ)) → List ℕ → Option (List (List ℕ))
-    → Option (List (List ℕ)) → Type 0
-StopsLast content f None path before now = StopsIn content f path before now
-StopsLast content f (Some log) path before now =
-    StopsIn content f path before now ⊎ ((path ≡ log) × IsRead content f × Tells before now (paths_in f ++ log ∷ []))
+module _ (content : List ℕ → Option (List ℕ)) (f : Option files.Line) (memo resume : Option (List ℕ)) where
+  -- or it is the memo that is read, and all files of the job were read
+  abbrev pub StopsAtMemo : List ℕ → Option (List (List ℕ)) → Option (List (List ℕ)) → Type 0
+  StopsAtMemo path before now = (memo ≡ Some path) × IsRead content f × Tells before now (paths_in f ++ path ∷ [])
 
--- so it is where a file could not be read, or is too long
-abbrev pub StopsFor : (List ℕ → Option (List ℕ)) → Option files.Line → (resume : Option (List ℕ)) → Option (List (List ℕ))
-    → Option (List (List ℕ)) → Why → Type 0
-StopsFor content f resume before now (Why.ReadFault path) = StopsLast content f resume path before now
-StopsFor content f resume before now (Why.TooLongInput path at) = StopsLast content f resume path before now
-StopsFor content f resume before now _ = Unit {0}
+  -- or the log that is gone on from, and all before it was read
+  abbrev pub StopsAtLog : List ℕ → Option (List (List ℕ)) → Option (List (List ℕ)) → Type 0
+  StopsAtLog path before now =
+      (resume ≡ Some path) × IsRead content f × IsRecalled content memo × Tells before now (paths_in f ++ (named memo ++ path ∷ []))
+
+  abbrev pub StopsLast : List ℕ → Option (List (List ℕ)) → Option (List (List ℕ)) → Type 0
+  StopsLast path before now = StopsIn content f path before now ⊎ (StopsAtMemo path before now ⊎ StopsAtLog path before now)
+
+  -- so it is where a file could not be read, or is too long, or is no memo's
+  abbrev pub StopsFor : Option (List (List ℕ)) → Option (List (List ℕ)) → Why → Type 0
+  StopsFor before now (Why.ReadFault path) = StopsLast path before now
+  StopsFor before now (Why.TooLongInput path at) = StopsLast path before now
+  StopsFor before now (Why.BadMemo path at) = StopsAtMemo path before now
+  StopsFor before now _ = Unit {0}

@@ -12,6 +12,6 @@ use Rattle.ciel_words.specs.declared.words.Words.{Words}
 abbrev pub GatesTell : (List ℕ → Option (List ℕ)) → Option Words → List Entry → (before after : List (Option (List TaskId))) → Type 0
 GatesTell content None J before after = ToldBy J before after
 GatesTell content (Some w) J before after =
-    SurelyAt w.resume (ToldBy J before after) (OfLine content w (λ source inputs.
+    SurelyAt w.resume (ToldBy J before after) (OfLine content w (λ g source inputs.
     OnwardTold (λ replayed. OfJob source inputs (λ job. (path : List ℕ) (bytes : List ℕ) → w.resume ≡ Some path → content path ≡ Some bytes
-    → ReplaysLog w source inputs job bytes replayed)) J before after))
+    → ReplaysLog g w source inputs job bytes replayed)) J before after))

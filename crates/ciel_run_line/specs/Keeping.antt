@@ -1,5 +1,6 @@
 -- The log of a line's run: the header that it begins with, what the run makes of its keeper, and what its file tells.
-use Rattle.std.specs.Prelude.{◌≡◌, ℕ, List, Bool, true, false, Option, Some, None, IfSome, Result, Ok, Err, length}
+use Rattle.std.specs.Prelude.{◌≡◌, ◌≤◌, ℕ, List, Bool, true, false, Option, Some, None, IfSome, Result, Ok, Err, length}
+use Rattle.sky_base.specs.KitView.{Gives}
 use Rattle.sky_base.specs.See as s
 use Rattle.ciel_io.specs.Faults.{HasRisen}
 use Rattle.ciel_io.specs.HeldFiles.{bytes_at}
@@ -16,7 +17,6 @@ use Rattle.ciel_run_line.specs.Source.{OfJob}
 use Rattle.ciel_run_log.specs.declared.why.Why.{Why}
 use Rattle.ciel_words.specs.declared.words.NameKind.{NameKind}
 use Rattle.ciel_words.specs.declared.words.Words.{Words}
-use Rattle.line_kit.specs.Gives.{gives}
 
 -- whether names have 20 bytes
 abbrev pub is_short : NameKind → Bool
@@ -29,29 +29,30 @@ header_of w source inputs = header_record w.workers w.seed w.losses (is_short w.
 
 -- ---- what is made of the keeper
 
--- by the path of the log, if there is one: no other path was asked; where no run began for it, the keeper has failed
+-- by the path of the log, if there is one: no other path was asked, and the keeper's faults don't fall; where no run began for it, it has failed
 abbrev pub KeepsLog : Option (List ℕ) → (before now : KeeperSeen) → Result (List ℕ) Why → LogState → Type 0
 KeepsLog None before now result state = (now ≡ before) × (state ≡ LogState.Whole)
 KeepsLog (Some path) before now (Err (Why.KeepFault p)) state =
     (p ≡ path) × AsksOnly path before.asked now.asked × HasRisen before.faults now.faults
 KeepsLog (Some path) before now (Err Why.Memory) state = Unit {0}
-KeepsLog (Some path) before now _ state = AsksOnly path before.asked now.asked × StandsBy path before now state
+KeepsLog (Some path) before now _ state =
+    AsksOnly path before.asked now.asked × StandsBy path before now state × (before.faults ≤ now.faults)
 
 -- ---- what its file tells
 
-module _ (w : Words) (source : List ℕ) (inputs : List Input) (J : List Entry) where
+module _ (g : Gives) (w : Words) (source : List ℕ) (inputs : List Input) (J : List Entry) where
   -- the bytes begin a log of the run; or the keeper failed, and they do up to the beginning of a dropped record
   abbrev pub BeginsLog : (failed : Type 0) → List ℕ → Type 0
   BeginsLog failed bytes =
-      OfJob source inputs (λ job. WrittenPart (digest_of w.names) job gives (plan_of w) (header_of w source inputs) J failed bytes)
+      OfJob source inputs (λ job. WrittenPart (digest_of w.names) job g (plan_of w) (header_of w source inputs) J failed bytes)
 
   abbrev pub IsLog : List ℕ → Type 0
-  IsLog bytes = OfJob source inputs (λ job. Logs (digest_of w.names) job gives (plan_of w) (header_of w source inputs) J bytes)
+  IsLog bytes = OfJob source inputs (λ job. Logs (digest_of w.names) job g (plan_of w) (header_of w source inputs) J bytes)
 
   -- the bytes are all that a log of the run may have: the next record has no room
   abbrev pub FillsLog : ℕ → List ℕ → Type 0
   FillsLog held bytes =
-      OfJob source inputs (λ job. FullAt (digest_of w.names) job gives (plan_of w) (header_of w source inputs) J held bytes)
+      OfJob source inputs (λ job. FullAt (digest_of w.names) job g (plan_of w) (header_of w source inputs) J held bytes)
 
   -- what the bytes are of the run's log, as it stands
   abbrev pub Told : LogState → List ℕ → Type 0

@@ -10,6 +10,7 @@ pub use Rattle.ciel_log_file.specs.Whole
 pub use Rattle.ciel_run_logged.specs.Ended
 pub use Rattle.ciel_run_logged.specs.Told
 pub mod Source
+pub mod Given
 pub mod Resuming
 pub mod Line
 pub mod Runs

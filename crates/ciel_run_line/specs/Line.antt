@@ -1,11 +1,14 @@
--- What a line of the command names: a script with its inputs, read from files or generated, and the log that it goes on from.
+-- What a line of the command names: a script with its inputs, read from files or generated, the memo that it reads, and the log that it goes on
+-- from.
 use Rattle.std.specs.Prelude.{◌≡◌, ◌≤◌, ℕ, List, [], ◌∷◌, ◌++◌, Bool, false, Option, Some, None, length}
+use Rattle.sky_base.specs.KitView.{Gives}
 use Rattle.sky_base.specs.Tree.{Script}
 use Rattle.sky_parse.specs.Source.{IsScript}
 use Rattle.ciel_run_load.specs.Found.{Fits, Holds, limit}
 use Rattle.ciel_run_load.specs.Generated.{generated_inputs, generator}
 use Rattle.ciel_run_load.specs.Line as files
 use Rattle.ciel_run_load.specs.Line.{Input, keys_of}
+use Rattle.ciel_run_line.specs.Given.{GivesOf}
 use Rattle.ciel_run_line.specs.Resuming.{IsWrittenLog}
 use Rattle.ciel_run_line.specs.Runs.{log_path}
 use Rattle.ciel_run_line.specs.Source.{job_of}
@@ -25,13 +28,17 @@ abbrev pub paths_in : Option files.Line → List (List ℕ)
 paths_in None = []
 paths_in (Some f) = files.paths_of f
 
--- the path of the log that it goes on from, which is read last
-abbrev pub resumed : Option (List ℕ) → List (List ℕ)
-resumed None = []
-resumed (Some path) = path ∷ []
+-- the path, where there is one
+abbrev pub named : Option (List ℕ) → List (List ℕ)
+named None = []
+named (Some path) = path ∷ []
+
+-- behind them the memo's that it reads, and the log's that it goes on from
+abbrev pub behind_job : Words → List (List ℕ)
+behind_job w = named w.memo ++ named w.resume
 
 abbrev pub paths_of : Words → List (List ℕ)
-paths_of w = paths_in (files_of w) ++ resumed w.resume
+paths_of w = paths_in (files_of w) ++ behind_job w
 
 abbrev pub paths : Option Words → List (List ℕ)
 paths None = []
@@ -44,7 +51,7 @@ job_paths (Some w) = paths_in (files_of w)
 
 abbrev pub last_paths : Option Words → List (List ℕ)
 last_paths None = []
-last_paths (Some w) = resumed w.resume
+last_paths (Some w) = behind_job w
 
 -- ---- what stands there
 
@@ -74,42 +81,47 @@ SurelyAt None alone onward = alone
 SurelyAt (Some path) alone onward = onward
 
 module _ (content : List ℕ → Option (List ℕ)) (w : Words) where
+  -- the fact, of the script and the inputs of this line, where files tell them all, whatever the log is
+  abbrev pub OfJobFiles : (List ℕ → List Input → Type 0) → Type 0
+  OfJobFiles P = (source : List ℕ) (inputs : List Input) → StandsIn content (files_of w) w.generate source inputs → P source inputs
+
+  -- the fact, of its script, where files tell it
+  abbrev pub OfSource : (List ℕ → Type 0) → Type 0
+  OfSource P = (source : List ℕ) → SourceIn content (files_of w) w.generate source → P source
+
+-- ---- where the executors of the line give this
+
+module _ (g : Gives) (content : List ℕ → Option (List ℕ)) (w : Words) where
   -- where the line goes on from a log, and what it reads is within the limits and is a script: the log's file is told, and it begins a log of a
   -- run of this job
   abbrev pub LogIsOwn : List ℕ → List Input → Type 0
   LogIsOwn source inputs =
       (path : List ℕ) → w.resume ≡ Some path → FitsIn (files_of w) source inputs → (script : Script) → IsScript source (keys_of inputs) script
-      → (bytes : List ℕ) × (content path ≡ Some bytes) × IsWrittenLog w source inputs (job_of script inputs) bytes
+      → (bytes : List ℕ) × (content path ≡ Some bytes) × IsWrittenLog g w source inputs (job_of script inputs) bytes
 
   -- files tell the script and the inputs of this line, and the log that it goes on from is its own
   pub record Stands (source : List ℕ) (inputs : List Input) : Type 0 where
     pub there : StandsIn content (files_of w) w.generate source inputs
     pub own : LogIsOwn source inputs
 
-  -- the fact, of the script and the inputs of this line, where files tell them all, and the log that it goes on from is its own
-  abbrev pub OfLine : (List ℕ → List Input → Type 0) → Type 0
-  OfLine P = (source : List ℕ) (inputs : List Input) → Stands source inputs → P source inputs
-
-  -- the same, whatever the log is
-  abbrev pub OfJobFiles : (List ℕ → List Input → Type 0) → Type 0
-  OfJobFiles P = (source : List ℕ) (inputs : List Input) → StandsIn content (files_of w) w.generate source inputs → P source inputs
+module _ (content : List ℕ → Option (List ℕ)) (w : Words) where
+  -- the fact, of what executors give to this line, and of its script and its inputs, where files tell them all, and the memo that it reads, and
+  -- the log that it goes on from is its own
+  abbrev pub OfLine : (Gives → List ℕ → List Input → Type 0) → Type 0
+  OfLine P = (g : Gives) → GivesOf content w g → (source : List ℕ) (inputs : List Input) → Stands g content w source inputs → P g source inputs
 
   -- the fact of a run of this line, which needs no premise where the run begins itself
   abbrev pub Surely : Type 0 → Type 0
-  Surely P = SurelyAt w.resume P (OfLine (λ source inputs. P))
-
-  -- the fact, of its script, where files tell it
-  abbrev pub OfSource : (List ℕ → Type 0) → Type 0
-  OfSource P = (source : List ℕ) → SourceIn content (files_of w) w.generate source → P source
+  Surely P = SurelyAt w.resume P (OfLine (λ g source inputs. P))
 
 module _ (content : List ℕ → Option (List ℕ)) (words : List (List ℕ)) where
   -- the fact, of the line that the words are
   abbrev pub OverLine : (Words → Type 0) → Type 0
   OverLine P = (w : Words) → line_of words ≡ Some w → P w
 
-  -- of the script and the inputs of it, where files tell them all
-  abbrev pub OverFiles : (Words → List ℕ → List Input → Type 0) → Type 0
-  OverFiles P = OverLine (λ w. OfLine content w (P w))
+  -- of what executors give to it, its script and its inputs, where files tell them all
+  abbrev pub OverFiles : (Gives → Words → List ℕ → List Input → Type 0) → Type 0
+  OverFiles P = OverLine (λ w. OfLine content w (λ g. P g w))
 
   -- of its script, where files tell it
   abbrev pub OverScript : (Words → List ℕ → Type 0) → Type 0

@@ -1,5 +1,6 @@
 -- The log that a line goes on from.
-use Rattle.std.specs.Prelude.{◌≡◌, ◌⊎◌, ℕ, List, [], Option, Some, ◌∷◌, take}
+use Rattle.std.specs.Prelude.{◌≡◌, ◌⊎◌, ℕ, List, [], ◌∷◌, Option, Some, take}
+use Rattle.sky_base.specs.KitView.{Gives}
 use Rattle.sky_base.specs.See as s
 use Rattle.sky_base.specs.declared.object.TaskId.{TaskId}
 use Rattle.ciel_journal.specs.Entries.{Entry}
@@ -15,20 +16,19 @@ use Rattle.ciel_run_resumed.specs.Resuming.{Replays}
 use Rattle.ciel_run_line.specs.Keeping.{header_of}
 use Rattle.ciel_run_line.specs.Runs.{digest_of, plan_of}
 use Rattle.ciel_words.specs.declared.words.Words.{Words}
-use Rattle.line_kit.specs.Gives.{gives}
 
-module _ (w : Words) (source : List ℕ) (inputs : List Input) (job : s.Job) where
+module _ (g : Gives) (w : Words) (source : List ℕ) (inputs : List Input) (job : s.Job) where
   -- the bytes begin a log of a run of this job by this line
   abbrev pub IsWrittenLog : List ℕ → Type 0
-  IsWrittenLog bytes = BeginsWritten (digest_of w.names) job gives (plan_of w) (header_of w source inputs) bytes
+  IsWrittenLog bytes = BeginsWritten (digest_of w.names) job g (plan_of w) (header_of w source inputs) bytes
 
   -- so they do, and each of its records can be read
   abbrev pub IsOwnLog : List ℕ → Type 0
-  IsOwnLog bytes = BeginsLog (digest_of w.names) job gives (plan_of w) (header_of w source inputs) bytes
+  IsOwnLog bytes = BeginsLog (digest_of w.names) job g (plan_of w) (header_of w source inputs) bytes
 
   -- these are the entries that its whole records tell
   abbrev pub ReplaysLog : List ℕ → List Entry → Type 0
-  ReplaysLog bytes entries = Replays (digest_of w.names) job gives (plan_of w) (header_of w source inputs) bytes entries
+  ReplaysLog bytes entries = Replays (digest_of w.names) job g (plan_of w) (header_of w source inputs) bytes entries
 
   -- the log is of this job: what an answer of the job asks of the log that was read, where one was
   abbrev pub OwnIfRead : Option (List ℕ) → Type 0
@@ -36,20 +36,20 @@ module _ (w : Words) (source : List ℕ) (inputs : List Input) (job : s.Job) whe
 
 -- behind the header of this line and other records a whole record begins at this place, and the records up to and with that one begin no log
 -- of a run of this job by this line
-pub record IsBadRecord (w : Words) (source : List ℕ) (inputs : List Input) (job : s.Job) (log : List ℕ) (at : ℕ) : Type 0 where
+pub record IsBadRecord (g : Gives) (w : Words) (source : List ℕ) (inputs : List Input) (job : s.Job) (log : List ℕ) (at : ℕ) : Type 0 where
   pub records : List (List ℕ)
   pub stand : RecordsTo log 0 (header_of w source inputs ∷ records) at
   pub record_bytes : List ℕ
   pub next : ℕ
   pub here : RecordAt log at record_bytes next
-  pub cause : IsWrittenLog w source inputs job (take next log) → ⊥
+  pub cause : IsWrittenLog g w source inputs job (take next log) → ⊥
 
 -- why the log wasn't gone on from: the record there is a bad one; or its header is another one
-abbrev pub RefusesLog : Words → (source : List ℕ) → s.Job → Option (List ℕ) → Why → Type 0
-RefusesLog w source job log (Why.BadLog path at) =
-    (bytes : List ℕ) → log ≡ Some bytes → IsBadAt (digest_of w.names) job gives (plan_of w) (header_of w source job.inputs) bytes at
-RefusesLog w source job log (Why.OtherJob path) = (bytes : List ℕ) → log ≡ Some bytes → BeginsOther bytes (header_of w source job.inputs)
-RefusesLog w source job log _ = Unit {0}
+abbrev pub RefusesLog : Gives → Words → (source : List ℕ) → s.Job → Option (List ℕ) → Why → Type 0
+RefusesLog g w source job log (Why.BadLog path at) =
+    (bytes : List ℕ) → log ≡ Some bytes → IsBadAt (digest_of w.names) job g (plan_of w) (header_of w source job.inputs) bytes at
+RefusesLog g w source job log (Why.OtherJob path) = (bytes : List ℕ) → log ≡ Some bytes → BeginsOther bytes (header_of w source job.inputs)
+RefusesLog g w source job log _ = Unit {0}
 
 -- ---- what gates tell
 

@@ -3,8 +3,10 @@
 #![tactic(auto)]
 
 pub mod answer;
+pub mod given;
 mod header;
 pub mod lines;
+mod recall;
 
 pub use ciel_log::state;
 pub use ciel_master::entry;

@@ -62,7 +62,7 @@ clash_text kept given =
 -- the message with its line feed; there is none where the answer was written
 abbrev pub message_of : Why → List ℕ
 message_of Why.Done = []
-message_of Why.Usage = codes "ciel: usage: ciel SCRIPT [--workers N] [--seed N] [--lose K:W,K:W] [--trace] [--plain] [NAME=PATH]... [--names sha1|sha256] [--stream] [--steal T] [--log PATH] [--resume PATH] or ciel --generate N\n"
+message_of Why.Usage = codes "ciel: usage: ciel SCRIPT [--workers N] [--seed N] [--lose K:W,K:W] [--trace] [--plain] [NAME=PATH]... [--names sha1|sha256] [--stream] [--steal T] [--log PATH] [--resume PATH] [--memo-new PATH] [--memo PATH] or ciel --generate N\n"
 message_of (Why.Syntax kind line col) = placed (codes "ciel: syntax ") (syntax_name kind) line col
 message_of (Why.Fault fault) = placed (codes "ciel: fault ") (fault_name fault.kind) fault.line fault.col
 message_of (Why.Endless names) = endless_text names
@@ -77,4 +77,5 @@ message_of (Why.TooDeepPlain depth) = counted (codes "ciel: plain run too deep "
 message_of (Why.KeepFault path) = concat (codes "ciel: keep fault " ∷ path ∷ codes "\n" ∷ [])
 message_of (Why.BadLog path at) = pathed (codes "ciel: bad log ") path at
 message_of (Why.OtherJob path) = concat (codes "ciel: other job " ∷ path ∷ codes "\n" ∷ [])
+message_of (Why.BadMemo path at) = pathed (codes "ciel: bad memo ") path at
 message_of (Why.LogFull path held) = pathed (codes "ciel: log full ") path held

@@ -20,4 +20,5 @@ status_of (Why.TooDeepPlain depth) = 13
 status_of (Why.KeepFault path) = 14
 status_of (Why.BadLog path at) = 15
 status_of (Why.OtherJob path) = 16
+status_of (Why.BadMemo path at) = 17
 status_of (Why.LogFull path held) = 18

@@ -31,7 +31,7 @@ pub fn put_message<J: Sink>(why: &Why, log: &mut J) -> Result<(), Failed>
     match why {
         Why::Done => Ok(()),
         Why::Usage => log.put(
-            b"ciel: usage: ciel SCRIPT [--workers N] [--seed N] [--lose K:W,K:W] [--trace] [--plain] [NAME=PATH]... [--names sha1|sha256] [--stream] [--steal T] [--log PATH] [--resume PATH] or ciel --generate N\n",
+            b"ciel: usage: ciel SCRIPT [--workers N] [--seed N] [--lose K:W,K:W] [--trace] [--plain] [NAME=PATH]... [--names sha1|sha256] [--stream] [--steal T] [--log PATH] [--resume PATH] [--memo-new PATH] [--memo PATH] or ciel --generate N\n",
         ),
         Why::Syntax { kind, line, col } => put_place(
             log,
@@ -59,6 +59,7 @@ pub fn put_message<J: Sink>(why: &Why, log: &mut J) -> Result<(), Failed>
         Why::KeepFault { path } => put_all(log, &["ciel: keep fault ", path.as_str(), "\n"]),
         Why::BadLog { path, at } => put_path(log, "ciel: bad log ", path, *at),
         Why::OtherJob { path } => put_all(log, &["ciel: other job ", path.as_str(), "\n"]),
+        Why::BadMemo { path, at } => put_path(log, "ciel: bad memo ", path, *at),
         Why::LogFull { path, held } => put_path(log, "ciel: log full ", path, *held),
     }
 }

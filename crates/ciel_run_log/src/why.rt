@@ -56,7 +56,8 @@ pub enum Why {
     TooDeepPlain {
         depth: u32,
     },
-    /// The log at the path could not be begun, or not all of it could be written; the answer was written then. Status 14.
+    /// The log at the path could not be begun, or not all of it could be written, or the memo's file at the path couldn't; the answer was written
+    /// then. Status 14.
     KeepFault {
         path: Txt,
     },
@@ -68,6 +69,12 @@ pub enum Why {
     /// The log at the path can't be gone on from: it is that of another script, of other inputs or of another plan. Status 16.
     OtherJob {
         path: Txt,
+    },
+    /// The file at the path is no memo's: at this byte its first entry begins that isn't whole or valid, is too long, ends past the file's limit or
+    /// has the key of one before it, or it is 0, where the two first bytes are wrong. Status 17.
+    BadMemo {
+        path: Txt,
+        at: u64,
     },
     /// The log at the path has so many bytes, and the next record would go past the most that it may have; the answer was written. Status 18.
     LogFull {
@@ -109,6 +116,7 @@ impl Why {
             Why::KeepFault { .. } => 14,
             Why::BadLog { .. } => 15,
             Why::OtherJob { .. } => 16,
+            Why::BadMemo { .. } => 17,
             Why::LogFull { .. } => 18,
         }
     }

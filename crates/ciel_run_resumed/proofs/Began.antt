@@ -41,4 +41,8 @@ module _ (path bytes : List ℕ) (old begun now : KeeperSeen) (placed : Changes 
 
   pub kept_by : Tells old.asked begun.asked (path ∷ []) → (held : ℕ) → held ≡ length bytes → (state : LogState) → Keeps path held begun now state
       → KeptBy path old now state
-  kept_by t held e state k = record { asked = asks t k.asked; stands = stands held e state k.stands }
+  kept_by t held e state k = record {
+    asked = asks t k.asked;
+    never_falls = omega (arith, rises, k.never_falls);
+    stands = stands held e state k.stands;
+  }

@@ -19,7 +19,8 @@ module _ (path : List ℕ) (before now : KeeperSeen) where
   StandsBy (LogState.Full held) = (held ≤ most) × HasBytes path now.files held
   StandsBy LogState.Memory = Unit {0}
 
-  -- no other path was asked, and the log stands as it is told
+  -- no other path was asked, its faults don't fall, and the log stands as it is told
   pub record KeptBy (state : LogState) : Type 0 where
     pub asked : AsksOnly path before.asked now.asked
+    pub never_falls : before.faults ≤ now.faults
     pub stands : StandsBy state

@@ -81,7 +81,7 @@ pub fn open_gates(alloc: Global) -> Result<Vec<Open>, Fail>
 }
 
 /// The program over the words of a row, a script and these gates; the log that stands at its path is empty.
-pub fn outcome<G: Gate + Send + 'static, R: Threads + Wait + Copy + Send + Drop + 'static>(
+pub fn outcome<G: Gate + Send + 'static, R: Threads + Wait + Copy + Send + Sync + Drop + 'static>(
     rt: R,
     alloc: Global,
     row: &str,
@@ -96,7 +96,10 @@ pub fn outcome<G: Gate + Send + 'static, R: Threads + Wait + Copy + Send + Drop 
 }
 
 /// The same with the bytes of the log.
-pub fn outcome_from<G: Gate + Send + 'static, R: Threads + Wait + Copy + Send + Drop + 'static>(
+pub fn outcome_from<
+    G: Gate + Send + 'static,
+    R: Threads + Wait + Copy + Send + Sync + Drop + 'static,
+>(
     rt: R,
     alloc: Global,
     row: &str,

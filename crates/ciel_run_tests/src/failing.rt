@@ -1,5 +1,5 @@
-// Reads, writes and logs that fail: the first read that fails is told, none is tried where the script is none, and a log that fails changes
-// no status but that of a journal behind a result.
+// Reads, writes, logs and memos that fail: the first read that fails is told, none is tried where the script is none, and a log that fails changes
+// no status but that of a journal behind a result, nor does a memo but that of an answer.
 
 use crate::calls::{Fails, Got, open_gates, outcome};
 use std::alloc::Global;
@@ -8,7 +8,7 @@ use std::sync::Wait;
 use std::test::Fail;
 use std::thread::Threads;
 
-fn over<R: Threads + Wait + Copy + Send + Drop + 'static>(
+fn over<R: Threads + Wait + Copy + Send + Sync + Drop + 'static>(
     rt: R,
     alloc: Global,
     row: &str,
@@ -32,7 +32,7 @@ type Row = (
 
 const SUM: &str = "return 1 + 2;";
 
-static ROWS: [Row; 19] = [
+static ROWS: [Row; 27] = [
     ("s", SUM, (1, 0, 0, 0), 8, "", "ciel: read fault s\n"),
     ("s t=f", SUM, (2, 0, 0, 0), 8, "", "ciel: read fault f\n"),
     (
@@ -150,6 +150,70 @@ static ROWS: [Row; 19] = [
         "",
         "ciel: fault DivZero 1:10\n",
     ),
+    (
+        "s --memo-new m",
+        SUM,
+        (0, 0, 0, 1),
+        14,
+        "3\n",
+        "ciel: keep fault m\n",
+    ),
+    (
+        "s --memo-new m",
+        SUM,
+        (0, 1, 0, 1),
+        9,
+        "3\n",
+        "ciel: write fault\n",
+    ),
+    (
+        "s --memo-new m",
+        "return 1 / 0;",
+        (0, 0, 0, 1),
+        3,
+        "",
+        "ciel: fault DivZero 1:10\n",
+    ),
+    (
+        "s --log l --memo-new m",
+        SUM,
+        (0, 0, 0, 6),
+        14,
+        "3\n",
+        "ciel: keep fault m\n",
+    ),
+    (
+        "s --log l --memo-new m",
+        SUM,
+        (0, 0, 0, 5),
+        14,
+        "3\n",
+        "ciel: keep fault l\n",
+    ),
+    (
+        "s --memo l",
+        SUM,
+        (2, 0, 0, 0),
+        8,
+        "",
+        "ciel: read fault l\n",
+    ),
+    (
+        "s --memo l",
+        SUM,
+        (0, 0, 0, 0),
+        17,
+        "",
+        "ciel: bad memo l 0\n",
+    ),
+    (
+        "s --memo l",
+        "return 1",
+        (2, 0, 0, 0),
+        2,
+        "",
+        "ciel: syntax NoSentence 1:9\n",
+    ),
 ];
 
 /// These bytes are the text, or where they could not all be written a beginning of it.
@@ -158,7 +222,7 @@ fn is(bytes: &[u8], text: &str, failed: u32) -> bool {
         && (bytes.len() < text.len()) == (failed > 0 && !text.is_empty())
 }
 
-fn ends<R: Abort + Threads + Wait + Copy + Send + Drop + 'static>(
+fn ends<R: Abort + Threads + Wait + Copy + Send + Sync + Drop + 'static>(
     rt: R,
     alloc: Global,
     row: &Row,

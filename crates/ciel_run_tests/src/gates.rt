@@ -73,7 +73,7 @@ fn all_tell(
     Ok(())
 }
 
-fn told<R: Abort + Threads + Wait + Copy + Send + Drop + 'static>(
+fn told<R: Abort + Threads + Wait + Copy + Send + Sync + Drop + 'static>(
     rt: R,
     alloc: Global,
     row: &str,
@@ -142,7 +142,7 @@ fn have_met(gates: &[Meeting], many: usize) -> bool {
 }
 
 // The word count in two parts, where each gate waits so many turns.
-fn meets<R: Abort + Threads + Wait + Copy + Send + Drop + 'static>(
+fn meets<R: Abort + Threads + Wait + Copy + Send + Sync + Drop + 'static>(
     rt: R,
     alloc: Global,
     row: &str,

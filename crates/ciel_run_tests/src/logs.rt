@@ -27,7 +27,7 @@ fn joined(alloc: Global, records: &[&[u8]]) -> Result<Vec<u8>, Fail> {
 }
 
 // The program over a sum, with these bytes at the path of its log.
-fn ran<R: Threads + Wait + Copy + Send + Drop + 'static>(
+fn ran<R: Threads + Wait + Copy + Send + Sync + Drop + 'static>(
     rt: R,
     alloc: Global,
     row: &str,
@@ -59,7 +59,7 @@ fn kept(rt: &impl Abort, alloc: Global, got: &Got) -> Result<(), Fail> {
 }
 
 // The sum is written, and its log is whole.
-fn ends<R: Abort + Threads + Wait + Copy + Send + Drop + 'static>(
+fn ends<R: Abort + Threads + Wait + Copy + Send + Sync + Drop + 'static>(
     rt: R,
     alloc: Global,
     row: &str,

@@ -129,5 +129,12 @@ fn messages_of_logs(rt: &impl Abort, alloc: Global) -> Result<(), Fail> {
         alloc,
         Why::OtherJob { path },
         "ciel: other job a b.log\n",
+    )?;
+    let path = Txt::new(alloc, "m")?;
+    says(
+        rt,
+        alloc,
+        Why::BadMemo { path, at: 2 },
+        "ciel: bad memo m 2\n",
     )
 }

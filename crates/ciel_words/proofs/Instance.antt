@@ -27,7 +27,8 @@ abbrev pub words : Rule
 words = with_index 1 (filled words_rule)
 
 rules_are : top.rules ≡ option (codes "workers") ∷ option (codes "seed") ∷ option (codes "lose") ∷ option (codes "names") ∷ option (codes "log")
-    ∷ option (codes "resume") ∷ option (codes "steal") ∷ option (codes "generate") ∷ flag (codes "trace") ∷ flag (codes "plain") ∷ flag (codes "stream") ∷ words ∷ []
+    ∷ option (codes "resume") ∷ option (codes "steal") ∷ option (codes "memo-new") ∷ option (codes "memo") ∷ option (codes "generate")
+    ∷ flag (codes "trace") ∷ flag (codes "plain") ∷ flag (codes "stream") ∷ words ∷ []
 rules_are = refl
 
 no_kind : (k : Kinds) → kind.InvalidValue ∷ k ≡ [] → ⊥
@@ -120,6 +121,28 @@ steal_is = record {
   twice = λ v R h. rw h no_conflict;
 }
 
+memo_new_is : IsOption top (option (codes "memo-new"))
+memo_new_is = record {
+  takes = refl;
+  most = refl;
+  by_id = refl;
+  same = refl;
+  none = λ R. no_kind [];
+  one = λ v R h. rw h refl;
+  twice = λ v R h. rw h no_conflict;
+}
+
+memo_is : IsOption top (option (codes "memo"))
+memo_is = record {
+  takes = refl;
+  most = refl;
+  by_id = refl;
+  same = refl;
+  none = λ R. no_kind [];
+  one = λ v R h. rw h refl;
+  twice = λ v R h. rw h no_conflict;
+}
+
 generate_is : IsOption top (option (codes "generate"))
 generate_is = record {
   takes = refl;
@@ -171,23 +194,35 @@ flags_of n false true h hf hg hh = this_flag (codes "plain") n plain_is (hg refl
 flags_of n false false true hf hg hh = this_flag (codes "stream") n stream_is (hh refl)
 flags_of n false false false hf hg hh = none refl refl refl
 
-picked : (n : Text) (a b c d e f g h u : Bool) (o : Option Rule) → (a ≡ true → codes "workers" ≡ n) → (b ≡ true → codes "seed" ≡ n)
+picked : (n : Text) (a b c d e f g h i j u : Bool) (o : Option Rule)
+    → (a ≡ true → codes "workers" ≡ n)
+    → (b ≡ true → codes "seed" ≡ n)
     → (c ≡ true → codes "lose" ≡ n)
-    → (d ≡ true → codes "names" ≡ n) → (e ≡ true → codes "log" ≡ n) → (f ≡ true → codes "resume" ≡ n)
-    → (g ≡ true → codes "steal" ≡ n) → (h ≡ true → codes "generate" ≡ n) → RuleOf n o false u
-    → RuleOf n (first a (option (codes "workers")) (first b (option (codes "seed")) (first c (option (codes "lose")) (first d (option (codes "names"))
-    (first e (option (codes "log")) (first f (option (codes "resume")) (first g (option (codes "steal")) (first h (option (codes "generate")) o))))))))
-    (a || (b || (c || (d || (e || (f || (g || (h || false)))))))) u
+    → (d ≡ true → codes "names" ≡ n)
+    → (e ≡ true → codes "log" ≡ n)
+    → (f ≡ true → codes "resume" ≡ n)
+    → (g ≡ true → codes "steal" ≡ n)
+    → (h ≡ true → codes "memo-new" ≡ n)
+    → (i ≡ true → codes "memo" ≡ n)
+    → (j ≡ true → codes "generate" ≡ n) → RuleOf n o false u
+    → RuleOf n (first a (option (codes "workers")) (first b (option (codes "seed")) (first c (option (codes "lose"))
+    (first d (option (codes "names")) (first e (option (codes "log"))
+    (first f (option (codes "resume")) (first g (option (codes "steal"))
+    (first h (option (codes "memo-new")) (first i (option (codes "memo"))
+    (first j (option (codes "generate")) o))))))))))
+    (a || (b || (c || (d || (e || (f || (g || (h || (i || (j || (false))))))))))) u
 unfolding first
-picked n true b c d e f g h u o ha hb hc hd he hf hg hh rest = this_option (codes "workers") n workers_is (ha refl) u
-picked n false true c d e f g h u o ha hb hc hd he hf hg hh rest = this_option (codes "seed") n seed_is (hb refl) u
-picked n false false true d e f g h u o ha hb hc hd he hf hg hh rest = this_option (codes "lose") n lose_is (hc refl) u
-picked n false false false true e f g h u o ha hb hc hd he hf hg hh rest = this_option (codes "names") n names_is (hd refl) u
-picked n false false false false true f g h u o ha hb hc hd he hf hg hh rest = this_option (codes "log") n log_is (he refl) u
-picked n false false false false false true g h u o ha hb hc hd he hf hg hh rest = this_option (codes "resume") n resume_is (hf refl) u
-picked n false false false false false false true h u o ha hb hc hd he hf hg hh rest = this_option (codes "steal") n steal_is (hg refl) u
-picked n false false false false false false false true u o ha hb hc hd he hf hg hh rest = this_option (codes "generate") n generate_is (hh refl) u
-picked n false false false false false false false false u o ha hb hc hd he hf hg hh rest = rest
+picked n true b c d e f g h i j u o ha hb hc hd he hf hg hh hi hj rest = this_option (codes "workers") n workers_is (ha refl) u
+picked n false true c d e f g h i j u o ha hb hc hd he hf hg hh hi hj rest = this_option (codes "seed") n seed_is (hb refl) u
+picked n false false true d e f g h i j u o ha hb hc hd he hf hg hh hi hj rest = this_option (codes "lose") n lose_is (hc refl) u
+picked n false false false true e f g h i j u o ha hb hc hd he hf hg hh hi hj rest = this_option (codes "names") n names_is (hd refl) u
+picked n false false false false true f g h i j u o ha hb hc hd he hf hg hh hi hj rest = this_option (codes "log") n log_is (he refl) u
+picked n false false false false false true g h i j u o ha hb hc hd he hf hg hh hi hj rest = this_option (codes "resume") n resume_is (hf refl) u
+picked n false false false false false false true h i j u o ha hb hc hd he hf hg hh hi hj rest = this_option (codes "steal") n steal_is (hg refl) u
+picked n false false false false false false false true i j u o ha hb hc hd he hf hg hh hi hj rest = this_option (codes "memo-new") n memo_new_is (hh refl) u
+picked n false false false false false false false false true j u o ha hb hc hd he hf hg hh hi hj rest = this_option (codes "memo") n memo_is (hi refl) u
+picked n false false false false false false false false false true u o ha hb hc hd he hf hg hh hi hj rest = this_option (codes "generate") n generate_is (hj refl) u
+picked n false false false false false false false false false false u o ha hb hc hd he hf hg hh hi hj rest = rest
 
 is : (m n : Text) → bytes_eq m n ≡ true → m ≡ n
 is m n e = (bytes_eq-Decides m n).0 e
@@ -196,8 +231,9 @@ pub rule_of_name : (n : Text) → RuleOf n (arg_by_long top.rules n) (is_valued 
 unfolding first
 rule_of_name n =
     picked n (bytes_eq (codes "workers") n) (bytes_eq (codes "seed") n) (bytes_eq (codes "lose") n) (bytes_eq (codes "names") n)
-    (bytes_eq (codes "log") n) (bytes_eq (codes "resume") n) (bytes_eq (codes "steal") n) (bytes_eq (codes "generate") n)
-    (is_unvalued n) _ (is _ n) (is _ n) (is _ n) (is _ n) (is _ n) (is _ n) (is _ n) (is _ n)
+    (bytes_eq (codes "log") n) (bytes_eq (codes "resume") n) (bytes_eq (codes "steal") n) (bytes_eq (codes "memo-new") n)
+    (bytes_eq (codes "memo") n) (bytes_eq (codes "generate") n)
+    (is_unvalued n) _ (is _ n) (is _ n) (is _ n) (is _ n) (is _ n) (is _ n) (is _ n) (is _ n) (is _ n) (is _ n)
     (flags_of n (bytes_eq (codes "trace") n) (bytes_eq (codes "plain") n) (bytes_eq (codes "stream") n) (is _ n) (is _ n) (is _ n))
 
 -- ---- the command is a line
@@ -241,7 +277,9 @@ defaults_none R =
     let by_log = with_default by_names (option (codes "log")) in
     let by_resume = with_default by_log (option (codes "resume")) in
     let by_steal = with_default by_resume (option (codes "steal")) in
-    let by_generate = with_default by_steal (option (codes "generate")) in
+    let by_memo_new = with_default by_steal (option (codes "memo-new")) in
+    let by_memo = with_default by_memo_new (option (codes "memo")) in
+    let by_generate = with_default by_memo (option (codes "generate")) in
     let by_trace = with_default by_generate (flag (codes "trace")) in
     let by_plain = with_default by_trace (flag (codes "plain")) in
     let by_stream = with_default by_plain (flag (codes "stream")) in
@@ -252,11 +290,13 @@ defaults_none R =
     (both_empty (default_fault by_names (option (codes "log"))) _ (rw or_true refl)
     (both_empty (default_fault by_log (option (codes "resume"))) _ (rw or_true refl)
     (both_empty (default_fault by_resume (option (codes "steal"))) _ (rw or_true refl)
-    (both_empty (default_fault by_steal (option (codes "generate"))) _ (rw or_true refl)
+    (both_empty (default_fault by_steal (option (codes "memo-new"))) _ (rw or_true refl)
+    (both_empty (default_fault by_memo_new (option (codes "memo"))) _ (rw or_true refl)
+    (both_empty (default_fault by_memo (option (codes "generate"))) _ (rw or_true refl)
     (both_empty (default_fault by_generate (flag (codes "trace"))) _ (flag_default (has_row (codes "trace") by_generate) (codes "trace"))
     (both_empty (default_fault by_trace (flag (codes "plain"))) _ (flag_default (has_row (codes "plain") by_trace) (codes "plain"))
     (both_empty (default_fault by_plain (flag (codes "stream"))) _ (flag_default (has_row (codes "stream") by_plain) (codes "stream"))
-    (both_empty (default_fault by_stream words) [] (rw or_true refl) refl)))))))))))
+    (both_empty (default_fault by_stream words) [] (rw or_true refl) refl)))))))))))))
 
 level_is : (ws : List Text) → fault_of command ws ≡ level_fault top [] nothing_held ws false []
 level_is ws = leaf_fault (built command) nothing_held ws refl

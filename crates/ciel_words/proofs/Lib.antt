@@ -10,5 +10,5 @@ mod Rows
 mod Readings
 mod Strict
 mod Said
-mod SoundLaw
 mod SaidBy
+mod SoundLaw

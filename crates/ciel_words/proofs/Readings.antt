@@ -25,22 +25,33 @@ finished : (R : List Row) → fold with_default R top.rules ≡ with_flag (codes
 finished R =
     let none = λ (n : Text) (S : List Row). either_way {A = List Row} (has_row n S) S in
     ap (λ S. fold with_default S (own.option (codes "seed") ∷ own.option (codes "lose") ∷ own.option (codes "names")
-    ∷ own.option (codes "log") ∷ own.option (codes "resume") ∷ own.option (codes "steal")
-    ∷ own.option (codes "generate") ∷ own.flag (codes "trace") ∷ own.flag (codes "plain") ∷ own.flag (codes "stream") ∷ words ∷ [])) (none (codes "workers") R)
-    ∙ ap (λ S. fold with_default S (own.option (codes "lose") ∷ own.option (codes "names") ∷ own.option (codes "log")
-    ∷ own.option (codes "resume") ∷ own.option (codes "steal") ∷ own.option (codes "generate")
-    ∷ own.flag (codes "trace") ∷ own.flag (codes "plain") ∷ own.flag (codes "stream") ∷ words ∷ [])) (none (codes "seed") R)
-    ∙ ap (λ S. fold with_default S (own.option (codes "names") ∷ own.option (codes "log") ∷ own.option (codes "resume")
-    ∷ own.option (codes "steal") ∷ own.option (codes "generate") ∷ own.flag (codes "trace")
-    ∷ own.flag (codes "plain") ∷ own.flag (codes "stream") ∷ words ∷ [])) (none (codes "lose") R)
-    ∙ ap (λ S. fold with_default S (own.option (codes "log") ∷ own.option (codes "resume") ∷ own.option (codes "steal")
-    ∷ own.option (codes "generate") ∷ own.flag (codes "trace") ∷ own.flag (codes "plain") ∷ own.flag (codes "stream") ∷ words ∷ [])) (none (codes "names") R)
-    ∙ ap (λ S. fold with_default S (own.option (codes "resume") ∷ own.option (codes "steal") ∷ own.option (codes "generate")
-    ∷ own.flag (codes "trace") ∷ own.flag (codes "plain") ∷ own.flag (codes "stream") ∷ words ∷ [])) (none (codes "log") R)
-    ∙ ap (λ S. fold with_default S (own.option (codes "steal") ∷ own.option (codes "generate") ∷ own.flag (codes "trace")
-    ∷ own.flag (codes "plain") ∷ own.flag (codes "stream") ∷ words ∷ [])) (none (codes "resume") R)
-    ∙ ap (λ S. fold with_default S (own.option (codes "generate") ∷ own.flag (codes "trace") ∷ own.flag (codes "plain") ∷ own.flag (codes "stream") ∷ words ∷ [])) (none (codes "steal") R)
-    ∙ ap (λ S. fold with_default S (own.flag (codes "trace") ∷ own.flag (codes "plain") ∷ own.flag (codes "stream") ∷ words ∷ [])) (none (codes "generate") R)
+    ∷ own.option (codes "log") ∷ own.option (codes "resume") ∷ own.option (codes "steal") ∷ own.option (codes "memo-new") ∷
+    own.option (codes "memo") ∷ own.option (codes "generate") ∷ own.flag (codes "trace") ∷ own.flag (codes "plain") ∷
+    own.flag (codes "stream") ∷ words ∷ [])) (none (codes "workers") R)
+    ∙ ap (λ S. fold with_default S (own.option (codes "lose") ∷ own.option (codes "names") ∷ own.option (codes "log") ∷
+    own.option (codes "resume") ∷ own.option (codes "steal") ∷ own.option (codes "memo-new") ∷ own.option (codes "memo") ∷
+    own.option (codes "generate") ∷ own.flag (codes "trace") ∷ own.flag (codes "plain") ∷ own.flag (codes "stream") ∷ words ∷ []))
+    (none (codes "seed") R)
+    ∙ ap (λ S. fold with_default S (own.option (codes "names") ∷ own.option (codes "log") ∷ own.option (codes "resume") ∷
+    own.option (codes "steal") ∷ own.option (codes "memo-new") ∷ own.option (codes "memo") ∷ own.option (codes "generate") ∷
+    own.flag (codes "trace") ∷ own.flag (codes "plain") ∷ own.flag (codes "stream") ∷ words ∷ [])) (none (codes "lose") R)
+    ∙ ap (λ S. fold with_default S (own.option (codes "log") ∷ own.option (codes "resume") ∷ own.option (codes "steal") ∷
+    own.option (codes "memo-new") ∷ own.option (codes "memo") ∷ own.option (codes "generate") ∷ own.flag (codes "trace") ∷
+    own.flag (codes "plain") ∷ own.flag (codes "stream") ∷ words ∷ [])) (none (codes "names") R)
+    ∙ ap (λ S. fold with_default S (own.option (codes "resume") ∷ own.option (codes "steal") ∷ own.option (codes "memo-new") ∷
+    own.option (codes "memo") ∷ own.option (codes "generate") ∷ own.flag (codes "trace") ∷ own.flag (codes "plain") ∷
+    own.flag (codes "stream") ∷ words ∷ [])) (none (codes "log") R)
+    ∙ ap (λ S. fold with_default S (own.option (codes "steal") ∷ own.option (codes "memo-new") ∷ own.option (codes "memo") ∷
+    own.option (codes "generate") ∷ own.flag (codes "trace") ∷ own.flag (codes "plain") ∷ own.flag (codes "stream") ∷ words ∷ []))
+    (none (codes "resume") R)
+    ∙ ap (λ S. fold with_default S (own.option (codes "memo-new") ∷ own.option (codes "memo") ∷ own.option (codes "generate") ∷
+    own.flag (codes "trace") ∷ own.flag (codes "plain") ∷ own.flag (codes "stream") ∷ words ∷ [])) (none (codes "steal") R)
+    ∙ ap (λ S. fold with_default S (own.option (codes "memo") ∷ own.option (codes "generate") ∷ own.flag (codes "trace") ∷
+    own.flag (codes "plain") ∷ own.flag (codes "stream") ∷ words ∷ [])) (none (codes "memo-new") R)
+    ∙ ap (λ S. fold with_default S (own.option (codes "generate") ∷ own.flag (codes "trace") ∷ own.flag (codes "plain") ∷
+    own.flag (codes "stream") ∷ words ∷ [])) (none (codes "memo") R)
+    ∙ ap (λ S. fold with_default S (own.flag (codes "trace") ∷ own.flag (codes "plain") ∷ own.flag (codes "stream") ∷ words ∷ []))
+    (none (codes "generate") R)
     ∙ none (codes "words") (with_flag (codes "stream") (with_flag (codes "plain") (with_flag (codes "trace") R)))
 
 held : {A : Type 0} (x y : Option A) → is_some x ≡ true → or_first x y ≡ x

@@ -31,7 +31,8 @@ are_spelled [] u = tt
 are_spelled (w ∷ ws) u = (IsSpelled-from_utf8 w u.0, are_spelled ws u.1)
 
 -- what is read of the matches
-pub record Matched (R : List Row) (workers seed lose names log resume steal generate : Option Text) (trace plain stream : Bool) (texts : List Text) : Type 0 where
+pub record Matched (R : List Row) (workers seed lose names log resume steal memo_new memo generate : Option Text) (trace plain stream : Bool)
+    (texts : List Text) : Type 0 where
   pub workers_is : workers ≡ first_of (codes "workers") R
   pub seed_is : seed ≡ first_of (codes "seed") R
   pub lose_is : lose ≡ first_of (codes "lose") R
@@ -39,48 +40,64 @@ pub record Matched (R : List Row) (workers seed lose names log resume steal gene
   pub log_is : log ≡ first_of (codes "log") R
   pub resume_is : resume ≡ first_of (codes "resume") R
   pub steal_is : steal ≡ first_of (codes "steal") R
+  pub memo_new_is : memo_new ≡ first_of (codes "memo-new") R
+  pub memo_is : memo ≡ first_of (codes "memo") R
   pub generate_is : generate ≡ first_of (codes "generate") R
   pub trace_is : FlagSays (one_of (codes "trace") R) trace
   pub plain_is : FlagSays (one_of (codes "plain") R) plain
   pub stream_is : FlagSays (one_of (codes "stream") R) stream
   pub texts_are : texts ≡ unwrap_or (all_of (codes "words") R) []
 
-said_of : (ps : List Part) (S : List Row) → AllOk ps → added [] ps ≡ Some S → (w s l n d c k g : Option Text) (t p b : Bool) (texts : List Text)
-    → Matched (fold with_default S top.rules) w s l n d c k g t p b texts → line_with ps ≡ line_said w s l n d c k g t p b texts
-said_of ps S ok a w s l n d c k g t p b texts m =
-    let workers : value_of (codes "workers") ps ≡ w = sym (m.workers_is ∙ value_read (codes "workers") refl refl refl refl refl ps S ok a) in
-    let seed : value_of (codes "seed") ps ≡ s = sym (m.seed_is ∙ value_read (codes "seed") refl refl refl refl refl ps S ok a) in
-    let lose : value_of (codes "lose") ps ≡ l = sym (m.lose_is ∙ value_read (codes "lose") refl refl refl refl refl ps S ok a) in
-    let names : value_of (codes "names") ps ≡ n = sym (m.names_is ∙ value_read (codes "names") refl refl refl refl refl ps S ok a) in
-    let log : value_of (codes "log") ps ≡ d = sym (m.log_is ∙ value_read (codes "log") refl refl refl refl refl ps S ok a) in
-    let resume : value_of (codes "resume") ps ≡ c = sym (m.resume_is ∙ value_read (codes "resume") refl refl refl refl refl ps S ok a) in
-    let steal : value_of (codes "steal") ps ≡ k = sym (m.steal_is ∙ value_read (codes "steal") refl refl refl refl refl ps S ok a) in
-    let generate : value_of (codes "generate") ps ≡ g = sym (m.generate_is ∙ value_read (codes "generate") refl refl refl refl refl ps S ok a) in
-    let trace : has_flag (codes "trace") ps ≡ t = sym (trace_read ps S ok a t m.trace_is) in
-    let plain : has_flag (codes "plain") ps ≡ p = sym (plain_read ps S ok a p m.plain_is) in
-    let stream : has_flag (codes "stream") ps ≡ b = sym (stream_read ps S ok a b m.stream_is) in
-    let said : texts_of ps ≡ texts = sym (m.texts_are ∙ words_read ps S ok a) in
-    ap (λ x. line_said x (value_of (codes "seed") ps) (value_of (codes "lose") ps) (value_of (codes "names") ps) (value_of (codes "log") ps)
-    (value_of (codes "resume") ps) (value_of (codes "steal") ps) (value_of (codes "generate") ps) (has_flag (codes "trace") ps)
-    (has_flag (codes "plain") ps) (has_flag (codes "stream") ps) (texts_of ps)) workers
+said_of : (ps : List Part) (S : List Row) → AllOk ps → added [] ps ≡ Some S → (w s l n d c k m o g : Option Text) (t p b : Bool)
+    → (texts : List Text)
+    → Matched (fold with_default S top.rules) w s l n d c k m o g t p b texts → line_with ps ≡ line_said w s l n d c k m o g t p b texts
+said_of ps S ok a w s l n d c k m o g t p b texts h =
+    let workers : value_of (codes "workers") ps ≡ w = sym (h.workers_is ∙ value_read (codes "workers") refl refl refl refl refl ps S ok a) in
+    let seed : value_of (codes "seed") ps ≡ s = sym (h.seed_is ∙ value_read (codes "seed") refl refl refl refl refl ps S ok a) in
+    let lose : value_of (codes "lose") ps ≡ l = sym (h.lose_is ∙ value_read (codes "lose") refl refl refl refl refl ps S ok a) in
+    let names : value_of (codes "names") ps ≡ n = sym (h.names_is ∙ value_read (codes "names") refl refl refl refl refl ps S ok a) in
+    let log : value_of (codes "log") ps ≡ d = sym (h.log_is ∙ value_read (codes "log") refl refl refl refl refl ps S ok a) in
+    let resume : value_of (codes "resume") ps ≡ c = sym (h.resume_is ∙ value_read (codes "resume") refl refl refl refl refl ps S ok a) in
+    let steal : value_of (codes "steal") ps ≡ k = sym (h.steal_is ∙ value_read (codes "steal") refl refl refl refl refl ps S ok a) in
+    let memo_new : value_of (codes "memo-new") ps ≡ m = sym (h.memo_new_is ∙ value_read (codes "memo-new") refl refl refl refl refl ps S ok a) in
+    let memo : value_of (codes "memo") ps ≡ o = sym (h.memo_is ∙ value_read (codes "memo") refl refl refl refl refl ps S ok a) in
+    let generate : value_of (codes "generate") ps ≡ g = sym (h.generate_is ∙ value_read (codes "generate") refl refl refl refl refl ps S ok a) in
+    let trace : has_flag (codes "trace") ps ≡ t = sym (trace_read ps S ok a t h.trace_is) in
+    let plain : has_flag (codes "plain") ps ≡ p = sym (plain_read ps S ok a p h.plain_is) in
+    let stream : has_flag (codes "stream") ps ≡ b = sym (stream_read ps S ok a b h.stream_is) in
+    let said : texts_of ps ≡ texts = sym (h.texts_are ∙ words_read ps S ok a) in
+    ap (λ x. line_said x (value_of (codes "seed") ps) (value_of (codes "lose") ps) (value_of (codes "names") ps)
+    (value_of (codes "log") ps) (value_of (codes "resume") ps) (value_of (codes "steal") ps) (value_of (codes "memo-new") ps)
+    (value_of (codes "memo") ps) (value_of (codes "generate") ps) (has_flag (codes "trace") ps) (has_flag (codes "plain") ps)
+    (has_flag (codes "stream") ps) (texts_of ps)) workers
     ∙ ap (λ x. line_said w x (value_of (codes "lose") ps) (value_of (codes "names") ps) (value_of (codes "log") ps)
-    (value_of (codes "resume") ps) (value_of (codes "steal") ps) (value_of (codes "generate") ps) (has_flag (codes "trace") ps)
-    (has_flag (codes "plain") ps) (has_flag (codes "stream") ps) (texts_of ps)) seed
+    (value_of (codes "resume") ps) (value_of (codes "steal") ps) (value_of (codes "memo-new") ps) (value_of (codes "memo") ps)
+    (value_of (codes "generate") ps) (has_flag (codes "trace") ps) (has_flag (codes "plain") ps) (has_flag (codes "stream") ps)
+    (texts_of ps)) seed
     ∙ ap (λ x. line_said w s x (value_of (codes "names") ps) (value_of (codes "log") ps) (value_of (codes "resume") ps)
-    (value_of (codes "steal") ps) (value_of (codes "generate") ps) (has_flag (codes "trace") ps) (has_flag (codes "plain") ps) (has_flag (codes "stream") ps) (texts_of ps)) lose
+    (value_of (codes "steal") ps) (value_of (codes "memo-new") ps) (value_of (codes "memo") ps) (value_of (codes "generate") ps)
+    (has_flag (codes "trace") ps) (has_flag (codes "plain") ps) (has_flag (codes "stream") ps) (texts_of ps)) lose
     ∙ ap (λ x. line_said w s l x (value_of (codes "log") ps) (value_of (codes "resume") ps) (value_of (codes "steal") ps)
-    (value_of (codes "generate") ps) (has_flag (codes "trace") ps) (has_flag (codes "plain") ps) (has_flag (codes "stream") ps) (texts_of ps)) names
-    ∙ ap (λ x. line_said w s l n x (value_of (codes "resume") ps) (value_of (codes "steal") ps) (value_of (codes "generate") ps)
-    (has_flag (codes "trace") ps) (has_flag (codes "plain") ps) (has_flag (codes "stream") ps) (texts_of ps)) log
-    ∙ ap (λ x. line_said w s l n d x (value_of (codes "steal") ps) (value_of (codes "generate") ps) (has_flag (codes "trace") ps)
-    (has_flag (codes "plain") ps) (has_flag (codes "stream") ps) (texts_of ps)) resume
-    ∙ ap (λ x. line_said w s l n d c x (value_of (codes "generate") ps) (has_flag (codes "trace") ps) (has_flag (codes "plain") ps)
-    (has_flag (codes "stream") ps) (texts_of ps)) steal
-    ∙ ap (λ x. line_said w s l n d c k x (has_flag (codes "trace") ps) (has_flag (codes "plain") ps) (has_flag (codes "stream") ps) (texts_of ps)) generate
-    ∙ ap (λ x. line_said w s l n d c k g x (has_flag (codes "plain") ps) (has_flag (codes "stream") ps) (texts_of ps)) trace
-    ∙ ap (λ x. line_said w s l n d c k g t x (has_flag (codes "stream") ps) (texts_of ps)) plain
-    ∙ ap (λ x. line_said w s l n d c k g t p x (texts_of ps)) stream
-    ∙ ap (λ x. line_said w s l n d c k g t p b x) said
+    (value_of (codes "memo-new") ps) (value_of (codes "memo") ps) (value_of (codes "generate") ps) (has_flag (codes "trace") ps)
+    (has_flag (codes "plain") ps) (has_flag (codes "stream") ps) (texts_of ps)) names
+    ∙ ap (λ x. line_said w s l n x (value_of (codes "resume") ps) (value_of (codes "steal") ps) (value_of (codes "memo-new") ps)
+    (value_of (codes "memo") ps) (value_of (codes "generate") ps) (has_flag (codes "trace") ps) (has_flag (codes "plain") ps)
+    (has_flag (codes "stream") ps) (texts_of ps)) log
+    ∙ ap (λ x. line_said w s l n d x (value_of (codes "steal") ps) (value_of (codes "memo-new") ps) (value_of (codes "memo") ps)
+    (value_of (codes "generate") ps) (has_flag (codes "trace") ps) (has_flag (codes "plain") ps) (has_flag (codes "stream") ps)
+    (texts_of ps)) resume
+    ∙ ap (λ x. line_said w s l n d c x (value_of (codes "memo-new") ps) (value_of (codes "memo") ps) (value_of (codes "generate") ps)
+    (has_flag (codes "trace") ps) (has_flag (codes "plain") ps) (has_flag (codes "stream") ps) (texts_of ps)) steal
+    ∙ ap (λ x. line_said w s l n d c k x (value_of (codes "memo") ps) (value_of (codes "generate") ps) (has_flag (codes "trace") ps)
+    (has_flag (codes "plain") ps) (has_flag (codes "stream") ps) (texts_of ps)) memo_new
+    ∙ ap (λ x. line_said w s l n d c k m x (value_of (codes "generate") ps) (has_flag (codes "trace") ps) (has_flag (codes "plain") ps)
+    (has_flag (codes "stream") ps) (texts_of ps)) memo
+    ∙ ap (λ x. line_said w s l n d c k m o x (has_flag (codes "trace") ps) (has_flag (codes "plain") ps) (has_flag (codes "stream") ps)
+    (texts_of ps)) generate
+    ∙ ap (λ x. line_said w s l n d c k m o g x (has_flag (codes "plain") ps) (has_flag (codes "stream") ps) (texts_of ps)) trace
+    ∙ ap (λ x. line_said w s l n d c k m o g t x (has_flag (codes "stream") ps) (texts_of ps)) plain
+    ∙ ap (λ x. line_said w s l n d c k m o g t p x (texts_of ps)) stream
+    ∙ ap (λ x. line_said w s l n d c k m o g t p b x) said
 
 -- the parts whose rows clap has
 abbrev pub Apart : List Text → List Row → Type 0
@@ -117,17 +134,19 @@ refused ws u f = split (closed top.rules words [] ws) refl (reads_lines ws (are_
     split (Some S) e r = absurd (f r.0)
 
 pub said : (ws : List Text) → AllByRecursion IsUtf8 ws → dash_behind false ws ≡ false → fault_of command ws ≡ []
-    → (w s l n d c k g : Option Text) (t p b : Bool) (texts : List Text) → Matched (rows ws) w s l n d c k g t p b texts
-    → line_of ws ≡ line_said w s l n d c k g t p b texts
-said ws u h f w s l n d c k g t p b texts m = split (closed top.rules words [] ws) refl (reads_lines ws (are_spelled ws u))
+    → (w s l n d c k m o g : Option Text) (t p b : Bool) (texts : List Text) → Matched (rows ws) w s l n d c k m o g t p b texts
+    → line_of ws ≡ line_said w s l n d c k m o g t p b texts
+said ws u h f w s l n d c k m o g t p b texts q = split (closed top.rules words [] ws) refl (reads_lines ws (are_spelled ws u))
   where
-    split : (o : Option (List Row)) → closed top.rules words [] ws ≡ o → Reads ws o → line_of ws ≡ line_said w s l n d c k g t p b texts
+    split : (x : Option (List Row)) → closed top.rules words [] ws ≡ x → Reads ws x
+        → line_of ws ≡ line_said w s l n d c k m o g t p b texts
     split None e r = absurd (r f)
     split (Some S) e r =
         let there = parts_there ws S e in
         let ok = parts_ok ws there.0 there.1 in
         line_is ws there.0 h there.1 (once_each there.0 S ok there.2)
-        ∙ said_of there.0 S ok there.2 w s l n d c k g t p b texts (subst (λ (R : List Row). Matched R w s l n d c k g t p b texts) r.1 m)
+        ∙ said_of there.0 S ok there.2 w s l n d c k m o g t p b texts
+        (subst (λ (R : List Row). Matched R w s l n d c k m o g t p b texts) r.1 q)
 
 -- ---- as the command tells it
 

@@ -6,7 +6,7 @@ use Rattle.std.specs.List.{AllByRecursion, list_all}
 use Rattle.std.specs.Str.Parse.{digits_value}
 use Rattle.std.proofs.lemmas.Bool.Decides.{nat_tests}
 use Rattle.ciel_words.specs.Inputs.{all_apart, are_inputs, begins_key, goes_on_key, input_in, is_input, is_key, key_in, most_inputs, most_name, path_in}
-use Rattle.ciel_words.specs.Line.{files_in, line_said, line_with, lines_in, log_in, most_threads, most_workers, steal_in, stream_in, with}
+use Rattle.ciel_words.specs.Line.{files_in, kept_in, line_said, line_with, lines_in, most_threads, most_workers, steal_in, stream_in, with}
 use Rattle.ciel_words.specs.Parts.{Part, Text, has_flag, names_of, parts_of, texts_of, value_of}
 use Rattle.ciel_words.specs.Sound.{LineIsSound, LinesAreSound}
 use Rattle.ciel_words.specs.Values.{count_in, each_loss, is_number, loss_in, losses_in, most_losses, names_in, number_within, or_absent, pieces}
@@ -148,11 +148,11 @@ files_sound (Some n) [] f e =
     subst (FilesSound (Some n)) (some_is (None, []) f e) (omega arith, tt, λ z none. (let bad : Some n ≡ None = none in cc))
 files_sound (Some n) (w ∷ ws) f e = absurd (no_some f e)
 
-log_sound : (without : Bool) (o d : Option Text) → or_absent None (log_in without) o ≡ Some d → (path : Text) → d ≡ Some path
+kept_sound : (without : Bool) (o d : Option Text) → or_absent None (kept_in without) o ≡ Some d → (path : Text) → d ≡ Some path
     → (without ≡ false) × (0 < length path)
-log_sound without None d e path h = absurd (no_some path (some_is None d e ∙ h))
-log_sound true (Some t) d e path h = absurd (no_some d e)
-log_sound false (Some t) d e path h = split (nat_lt 0 (length t)) refl e
+kept_sound without None d e path h = absurd (no_some path (some_is None d e ∙ h))
+kept_sound true (Some t) d e path h = absurd (no_some d e)
+kept_sound false (Some t) d e path h = split (nat_lt 0 (length t)) refl e
   where
     split : (b : Bool) → nat_lt 0 (length t) ≡ b → cond b (Some (Some t)) None ≡ Some d → (false ≡ false) × (0 < length path)
     split true b f =
@@ -166,10 +166,10 @@ neither true log e = absurd (let bad : true ≡ false = e in cc)
 neither false None e = (refl, refl)
 neither false (Some t) e = absurd (let bad : true ≡ false = e in cc)
 
-resume_sound : (plain : Bool) (log o r : Option Text) → or_absent None (log_in (plain || is_some log)) o ≡ Some r → (path : Text) → r ≡ Some path
+second_sound : (plain : Bool) (log o r : Option Text) → or_absent None (kept_in (plain || is_some log)) o ≡ Some r → (path : Text) → r ≡ Some path
     → (plain ≡ false) × (log ≡ None) × (0 < length path)
-resume_sound plain log o r e path h =
-    let sound = log_sound (plain || is_some log) o r e path h in
+second_sound plain log o r e path h =
+    let sound = kept_sound (plain || is_some log) o r e path h in
     let none = neither plain log sound.0 in
     (none.0, none.1, sound.1)
 
@@ -195,19 +195,21 @@ stream_sound false stream m e h = refl
 stream_sound true false m e h = absurd (let same : false ≡ m = some_is false m e in cc)
 stream_sound true true m e h = absurd (no_some m e)
 
-said_sound : (workers seed lose names log resume steal generate : Option Text) (trace plain stream : Bool) (texts : List Text) (w : Words)
-    → line_said workers seed lose names log resume steal generate trace plain stream texts ≡ Some w
+said_sound : (workers seed lose names log resume steal memo_new memo generate : Option Text) (trace plain stream : Bool) (texts : List Text)
+    → (w : Words) → line_said workers seed lose names log resume steal memo_new memo generate trace plain stream texts ≡ Some w
     → LineIsSound w
-said_sound workers seed lose names log resume steal generate trace plain stream texts w e =
+said_sound workers seed lose names log resume steal memo_new memo generate trace plain stream texts w e =
     let one = given (or_absent 1 (number_within 1 most_workers) workers) _ w e in
     let two = given (or_absent 0 (number_within 0 (2 ^ 64 - 1)) seed) _ w one.2 in
     let three = given (or_absent [] (losses_in one.0) lose) _ w two.2 in
     let four = given (or_absent NameKind.Sha1 names_in names) _ w three.2 in
-    let logs = given (or_absent None (log_in plain) log) _ w four.2 in
-    let resumes = given (or_absent None (log_in (plain || is_some logs.0)) resume) _ w logs.2 in
+    let logs = given (or_absent None (kept_in plain) log) _ w four.2 in
+    let resumes = given (or_absent None (kept_in (plain || is_some logs.0)) resume) _ w logs.2 in
     let streams = given (stream_in plain stream) _ w resumes.2 in
     let steals = given (or_absent None (steal_in (plain || streams.0)) steal) _ w streams.2 in
-    let five = given (or_absent None lines_in generate) _ w steals.2 in
+    let news = given (or_absent None (kept_in (plain || streams.0)) memo_new) _ w steals.2 in
+    let memos = given (or_absent None (kept_in ((plain || streams.0) || is_some news.0)) memo) _ w news.2 in
+    let five = given (or_absent None lines_in generate) _ w memos.2 in
     let six = given (files_in five.0 texts) _ w five.2 in
     let count = workers_within workers one.0 one.1 in
     let losses = losses_sound one.0 count.0 lose three.0 three.1 in
@@ -220,11 +222,19 @@ said_sound workers seed lose names log resume steal generate trace plain stream 
       inputs = files.0;
       keys = files.1;
       named = files.2;
-      logged = log_sound plain log logs.0 logs.1;
-      resumed = resume_sound plain logs.0 resume resumes.0 resumes.1;
+      logged = kept_sound plain log logs.0 logs.1;
+      resumed = second_sound plain logs.0 resume resumes.0 resumes.1;
       streamed = stream_sound plain stream streams.0 streams.1;
       shared = λ threads h.
           let sound = steal_sound (plain || streams.0) steal steals.0 steals.1 threads h in
+          let none = neither_flag plain streams.0 sound.0 in
+          (none.0, none.1, sound.1, sound.2);
+      remembered = λ path h.
+          let sound = kept_sound (plain || streams.0) memo_new news.0 news.1 path h in
+          let none = neither_flag plain streams.0 sound.0 in
+          (none.0, none.1, sound.1);
+      recalled = λ path h.
+          let sound = second_sound (plain || streams.0) news.0 memo memos.0 memos.1 path h in
           let none = neither_flag plain streams.0 sound.0 in
           (none.0, none.1, sound.1, sound.2);
     })
@@ -238,6 +248,7 @@ lines_are_sound words w e =
     split : (ps : List Part) (b : Bool) → cond b (line_with ps) None ≡ Some w → LineIsSound w
     split ps true h =
         said_sound (value_of (codes "workers") ps) (value_of (codes "seed") ps) (value_of (codes "lose") ps) (value_of (codes "names") ps)
-        (value_of (codes "log") ps) (value_of (codes "resume") ps) (value_of (codes "steal") ps) (value_of (codes "generate") ps)
+        (value_of (codes "log") ps) (value_of (codes "resume") ps) (value_of (codes "steal") ps) (value_of (codes "memo-new") ps)
+        (value_of (codes "memo") ps) (value_of (codes "generate") ps)
         (has_flag (codes "trace") ps) (has_flag (codes "plain") ps) (has_flag (codes "stream") ps) (texts_of ps) w h
     split ps false h = absurd (no_some w h)

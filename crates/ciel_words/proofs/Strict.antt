@@ -123,7 +123,9 @@ waits_for rest e =
     (ap₂ (λ a b. a || b) (turned rest (codes "log"))
     (ap₂ (λ a b. a || b) (turned rest (codes "resume"))
     (ap₂ (λ a b. a || b) (turned rest (codes "steal"))
-    (ap (λ a. a || false) (turned rest (codes "generate")))))))))
+    (ap₂ (λ a b. a || b) (turned rest (codes "memo-new"))
+    (ap₂ (λ a b. a || b) (turned rest (codes "memo"))
+    (ap (λ a. a || false) (turned rest (codes "generate")))))))))))
 
 no_wait : (rest : Text) → has_equals rest ≡ true → takes_next (45 ∷ 45 ∷ rest) ≡ false
 no_wait rest e =
@@ -136,6 +138,8 @@ no_wait rest e =
       other (codes "log") refl,
       other (codes "resume") refl,
       other (codes "steal") refl,
+      other (codes "memo-new") refl,
+      other (codes "memo") refl,
       other (codes "generate") refl,
     ) refl
 
@@ -167,6 +171,8 @@ no_wait_positional w e =
       other (codes "--log") refl,
       other (codes "--resume") refl,
       other (codes "--steal") refl,
+      other (codes "--memo-new") refl,
+      other (codes "--memo") refl,
       other (codes "--generate") refl,
     ) refl
 

@@ -27,7 +27,8 @@ abbrev pub command : App
 command =
     let numbers = with_option (codes "lose") (with_option (codes "seed") (with_option (codes "workers") (bare (codes "ciel")))) in
     let logs = with_option (codes "resume") (with_option (codes "log") (with_option (codes "names") numbers)) in
-    let options = with_option (codes "generate") (with_option (codes "steal") logs) in
+    let memos = with_option (codes "memo") (with_option (codes "memo-new") (with_option (codes "steal") logs)) in
+    let options = with_option (codes "generate") memos in
     with_rule (with_flag (codes "stream") (with_flag (codes "plain") (with_flag (codes "trace") options))) words_rule
 
 -- what clap reads of the words

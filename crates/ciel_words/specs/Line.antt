@@ -1,6 +1,6 @@
 -- The line of the command:
 -- SCRIPT [--workers N] [--seed N] [--lose K:W,K:W] [--trace] [--plain] [--names sha1|sha256] [--stream] [--steal T] [--log PATH]
--- [--resume PATH] [NAME=PATH]..., or --generate N with these options.
+-- [--resume PATH] [--memo-new PATH] [--memo PATH] [NAME=PATH]..., or --generate N with these options.
 use Rattle.std.specs.Prelude.{ℕ, ◌-◌, ◌^◌, ◌&&◌, ◌||◌, Bool, not, is_some, nat_lt, List, [], ◌∷◌, Option, Some, None, if◌then◌else◌, codes, length, map, option_map}
 use Rattle.ciel_words.specs.Inputs.{all_apart, are_inputs, input_in}
 use Rattle.ciel_words.specs.Parts.{Text, Part, parts_of, names_of, value_of, has_flag, texts_of}
@@ -19,9 +19,9 @@ most_workers = 64
 abbrev pub most_lines : ℕ
 most_lines = 1000000
 
--- the path of a log, which isn't empty, where a run may have one
-abbrev pub log_in : (without : Bool) → Text → Option (Option Text)
-log_in without t = if not without && nat_lt 0 (length t) then Some (Some t) else None
+-- the path of a file that a run keeps, which isn't empty, where it may have one
+abbrev pub kept_in : (without : Bool) → Text → Option (Option Text)
+kept_in without t = if not without && nat_lt 0 (length t) then Some (Some t) else None
 
 -- the greatest number of threads that are shared
 abbrev pub most_threads : ℕ
@@ -46,18 +46,21 @@ files_in None (w ∷ ws) = if nat_lt 0 (length w) && are_inputs ws then Some (So
 files_in (Some lines) [] = Some (None, [])
 files_in (Some lines) (w ∷ ws) = None
 
--- what a line says that has these values, flags and positional words: a sequential run has no log, no streams and no threads to
--- share, a run with streams shares none, and a run that goes on from a log begins none
-abbrev pub line_said : (workers seed lose names log resume steal generate : Option Text) → (trace plain stream : Bool) → List Text → Option Words
-line_said workers seed lose names log resume steal generate trace plain stream texts =
+-- what a line says that has these values, flags and positional words: a sequential run has no log, no streams, no memo and no threads
+-- to share, a run with streams shares none and has no memo, a run that goes on from a log begins none, and one that reads a memo begins none
+abbrev pub line_said : (workers seed lose names log resume steal memo_new memo generate : Option Text) → (trace plain stream : Bool)
+    → List Text → Option Words
+line_said workers seed lose names log resume steal memo_new memo generate trace plain stream texts =
     with (or_absent 1 (number_within 1 most_workers) workers) (λ w.
     with (or_absent 0 (number_within 0 (2 ^ 64 - 1)) seed) (λ s.
     with (or_absent [] (losses_in w) lose) (λ l.
     with (or_absent NameKind.Sha1 names_in names) (λ k.
-    with (or_absent None (log_in plain) log) (λ d.
-    with (or_absent None (log_in (plain || is_some d)) resume) (λ r.
+    with (or_absent None (kept_in plain) log) (λ d.
+    with (or_absent None (kept_in (plain || is_some d)) resume) (λ r.
     with (stream_in plain stream) (λ m.
     with (or_absent None (steal_in (plain || m)) steal) (λ t.
+    with (or_absent None (kept_in (plain || m)) memo_new) (λ n.
+    with (or_absent None (kept_in ((plain || m) || is_some n)) memo) (λ o.
     with (or_absent None lines_in generate) (λ g.
     with (files_in g texts) (λ f. Some (record {
       script = f.0;
@@ -72,15 +75,17 @@ line_said workers seed lose names log resume steal generate trace plain stream t
       resume = r;
       stream = m;
       steal = t;
+      memo_new = n;
+      memo = o;
       generate = g;
-    })))))))))))
+    })))))))))))))
 
 abbrev pub line_with : List Part → Option Words
 line_with ps =
     let value = λ (name : Text). value_of name ps in
     line_said (value (codes "workers")) (value (codes "seed")) (value (codes "lose")) (value (codes "names")) (value (codes "log"))
-    (value (codes "resume")) (value (codes "steal")) (value (codes "generate")) (has_flag (codes "trace") ps) (has_flag (codes "plain") ps)
-    (has_flag (codes "stream") ps) (texts_of ps)
+    (value (codes "resume")) (value (codes "steal")) (value (codes "memo-new")) (value (codes "memo")) (value (codes "generate"))
+    (has_flag (codes "trace") ps) (has_flag (codes "plain") ps) (has_flag (codes "stream") ps) (texts_of ps)
 
 -- what the words say, where they are a line: each option stands at most once
 abbrev pub line_of : List Text → Option Words

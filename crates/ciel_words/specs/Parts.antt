@@ -15,7 +15,8 @@ pub data Part : Type 0 where
 -- the options that have a value, and those that have none
 abbrev pub valued : List Text
 valued =
-    codes "workers" ∷ codes "seed" ∷ codes "lose" ∷ codes "names" ∷ codes "log" ∷ codes "resume" ∷ codes "steal" ∷ codes "generate" ∷ []
+    codes "workers" ∷ codes "seed" ∷ codes "lose" ∷ codes "names" ∷ codes "log" ∷ codes "resume" ∷ codes "steal" ∷ codes "memo-new"
+    ∷ codes "memo" ∷ codes "generate" ∷ []
 
 abbrev pub unvalued : List Text
 unvalued = codes "trace" ∷ codes "plain" ∷ codes "stream" ∷ []

@@ -15,7 +15,7 @@ abbrev pub said_by : Raw → Option Words
 said_by r =
     let texts = map (λ w. w.now) r.words.items in
     line_said (text_of r.workers) (text_of r.seed) (text_of r.lose) (text_of r.names) (text_of r.log) (text_of r.resume)
-    (text_of r.steal) (text_of r.generate) r.trace r.plain r.stream texts
+    (text_of r.steal) (text_of r.memo_new) (text_of r.memo) (text_of r.generate) r.trace r.plain r.stream texts
 
 -- an option with a value, as it stands where its value is the next word
 abbrev pub takes_next : Text → Bool

@@ -23,6 +23,9 @@ pub record LineIsSound (w : Words) : Type 0 where
   pub streamed : w.stream ≡ true → w.plain ≡ false
   -- some threads are shared, and not too many; neither a sequential run nor one with streams shares any
   pub shared : (threads : ℕ) → w.steal ≡ Some threads → (w.plain ≡ false) × (w.stream ≡ false) × (0 < threads) × (threads ≤ most_threads)
+  -- nor is that of a memo's file empty, and neither a sequential run nor one with streams has one; no line both begins one and reads one
+  pub remembered : (path : Text) → w.memo_new ≡ Some path → (w.plain ≡ false) × (w.stream ≡ false) × (0 < length path)
+  pub recalled : (path : Text) → w.memo ≡ Some path → (w.plain ≡ false) × (w.stream ≡ false) × (w.memo_new ≡ None) × (0 < length path)
 
 abbrev pub LinesAreSound : Type 0
 LinesAreSound = (words : List Text) (w : Words) → line_of words ≡ Some w → LineIsSound w

@@ -32,7 +32,7 @@ fn words<'a>(alloc: Global) -> Arg<'a>
     Arg::new(alloc, "words").action(ArgAction::Append)
 }
 
-/// The command: eight options with a value, three without, and positional words; no help and no version.
+/// The command: ten options with a value, three without, and positional words; no help and no version.
 pub(crate) fn command<'a>(alloc: Global) -> Result<Command<'a>, AllocError>
     ensures { IfOk result (λ c. app_of c ≡ command) }
 {
@@ -47,6 +47,8 @@ pub(crate) fn command<'a>(alloc: Global) -> Result<Command<'a>, AllocError>
         .arg(option(alloc, "log"))?
         .arg(option(alloc, "resume"))?
         .arg(option(alloc, "steal"))?
+        .arg(option(alloc, "memo-new"))?
+        .arg(option(alloc, "memo"))?
         .arg(option(alloc, "generate"))?
         .arg(flag(alloc, "trace"))?
         .arg(flag(alloc, "plain"))?

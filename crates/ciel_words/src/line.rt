@@ -1,7 +1,7 @@
 //! What the values of a line say.
 
 ghost use Rattle.std.specs.Prelude.{◌≡◌, ◌<◌, ◌||◌, [], Some, None, Err, IfOk, map};
-ghost use Rattle.ciel_words.specs.Line.{files_in, lines_in, log_in, steal_in, stream_in};
+ghost use Rattle.ciel_words.specs.Line.{files_in, kept_in, lines_in, steal_in, stream_in};
 ghost use Rattle.ciel_words.specs.Raw.{said_by, text_of};
 ghost use Rattle.ciel_words.specs.Values.{losses_in, names_in, or_absent};
 
@@ -49,10 +49,10 @@ fn name_kind(value: Option<&str>) -> Option<NameKind>
     }
 }
 
-// The path of a log, where one is asked for; `without` says that the run may have none.
-fn log_path(alloc: Global, without: bool, value: Option<&str>) -> Result<Option<Txt>, WordsRefusal>
-    ensures path { IfOk result (λ d. or_absent None (log_in without) (text_of value.entry) ≡ Some d) }
-    ensures usage { result ≡ Err WordsRefusal.Usage → or_absent None (log_in without) (text_of value.entry) ≡ None }
+// The path of a file that a run keeps, where one is asked for; `without` says that the run may have none.
+fn kept_path(alloc: Global, without: bool, value: Option<&str>) -> Result<Option<Txt>, WordsRefusal>
+    ensures path { IfOk result (λ d. or_absent None (kept_in without) (text_of value.entry) ≡ Some d) }
+    ensures usage { result ≡ Err WordsRefusal.Usage → or_absent None (kept_in without) (text_of value.entry) ≡ None }
 {
     match value {
         None => Ok(None),
@@ -64,17 +64,17 @@ fn log_path(alloc: Global, without: bool, value: Option<&str>) -> Result<Option<
     }
 }
 
-// The path of a log that a run goes on from, where one is asked for; `without` says that the run may have none, and `begun` that it begins one.
-fn resume_path(
+// The path of a file that a run goes on from, where one is asked for; `without` says that the run may have none, and `begun` that it begins one.
+fn second_path(
     alloc: Global,
     without: bool,
     begun: bool,
     value: Option<&str>,
 ) -> Result<Option<Txt>, WordsRefusal>
-    ensures path { IfOk result (λ p. or_absent None (log_in (without || begun)) (text_of value.entry) ≡ Some p) }
-    ensures usage { result ≡ Err WordsRefusal.Usage → or_absent None (log_in (without || begun)) (text_of value.entry) ≡ None }
+    ensures path { IfOk result (λ p. or_absent None (kept_in (without || begun)) (text_of value.entry) ≡ Some p) }
+    ensures usage { result ≡ Err WordsRefusal.Usage → or_absent None (kept_in (without || begun)) (text_of value.entry) ≡ None }
 {
-    let path = log_path(alloc, without || begun, value)?;
+    let path = kept_path(alloc, without || begun, value)?;
     Ok(path)
 }
 
@@ -85,7 +85,7 @@ fn streamed(plain: bool, stream: bool) -> Option<bool>
     if plain && stream { None } else { Some(stream) }
 }
 
-// Whether a run shares no threads: a sequential one, and one with streams.
+// Whether a run shares no threads and has no memo: a sequential one, and one with streams.
 fn is_alone(plain: bool, stream: bool) -> bool
     ensures { result ≡ (plain || stream) }
 {
@@ -175,8 +175,8 @@ pub(crate) fn line_from(alloc: Global, raw: &Raw<'_>) -> Result<Words, WordsRefu
     let Some(names) = name_kind(raw.names) else {
         return Err(WordsRefusal::Usage);
     };
-    let log = log_path(alloc, raw.plain, raw.log)?;
-    let resume = resume_path(alloc, raw.plain, log.is_some(), raw.resume)?;
+    let log = kept_path(alloc, raw.plain, raw.log)?;
+    let resume = second_path(alloc, raw.plain, log.is_some(), raw.resume)?;
     let Some(stream) = streamed(raw.plain, raw.stream) else {
         return Err(WordsRefusal::Usage);
     };
@@ -184,6 +184,8 @@ pub(crate) fn line_from(alloc: Global, raw: &Raw<'_>) -> Result<Words, WordsRefu
     let Some(steal) = shared(alone, raw.steal) else {
         return Err(WordsRefusal::Usage);
     };
+    let memo_new = kept_path(alloc, alone, raw.memo_new)?;
+    let memo = second_path(alloc, alone, memo_new.is_some(), raw.memo)?;
     let Some(generate) = generated(raw.generate) else {
         return Err(WordsRefusal::Usage);
     };
@@ -201,6 +203,8 @@ pub(crate) fn line_from(alloc: Global, raw: &Raw<'_>) -> Result<Words, WordsRefu
         resume,
         stream,
         steal,
+        memo_new,
+        memo,
         generate,
     })
 }

@@ -27,6 +27,8 @@ pub(crate) struct Raw<'a> {
     pub log: Option<&'a str>,
     pub resume: Option<&'a str>,
     pub steal: Option<&'a str>,
+    pub memo_new: Option<&'a str>,
+    pub memo: Option<&'a str>,
     pub generate: Option<&'a str>,
     pub trace: bool,
     pub plain: bool,
@@ -43,6 +45,8 @@ fn gather<'a>(alloc: Global, matches: &ArgMatches<'a>) -> Result<Raw<'a>, AllocE
     ensures log { IfOk result (λ r. text_of r.log ≡ first_of (codes "log") (rows_of (found_of matches.now))) }
     ensures resume { IfOk result (λ r. text_of r.resume ≡ first_of (codes "resume") (rows_of (found_of matches.now))) }
     ensures steal { IfOk result (λ r. text_of r.steal ≡ first_of (codes "steal") (rows_of (found_of matches.now))) }
+    ensures memo_new { IfOk result (λ r. text_of r.memo_new ≡ first_of (codes "memo-new") (rows_of (found_of matches.now))) }
+    ensures memo { IfOk result (λ r. text_of r.memo ≡ first_of (codes "memo") (rows_of (found_of matches.now))) }
     ensures generate { IfOk result (λ r. text_of r.generate ≡ first_of (codes "generate") (rows_of (found_of matches.now))) }
     ensures trace { IfOk result (λ r. FlagSays (one_of (codes "trace") (rows_of (found_of matches.now))) r.trace) }
     ensures plain { IfOk result (λ r. FlagSays (one_of (codes "plain") (rows_of (found_of matches.now))) r.plain) }
@@ -61,6 +65,8 @@ fn gather<'a>(alloc: Global, matches: &ArgMatches<'a>) -> Result<Raw<'a>, AllocE
         log: matches.get_str("log"),
         resume: matches.get_str("resume"),
         steal: matches.get_str("steal"),
+        memo_new: matches.get_str("memo-new"),
+        memo: matches.get_str("memo"),
         generate: matches.get_str("generate"),
         trace: matches.get_flag("trace"),
         plain: matches.get_flag("plain"),
@@ -91,6 +97,8 @@ fn takes_next(word: &str) -> bool
             | "--log"
             | "--resume"
             | "--steal"
+            | "--memo-new"
+            | "--memo"
             | "--generate"
     )
 }

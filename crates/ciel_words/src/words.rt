@@ -129,6 +129,10 @@ pub struct Words {
     pub stream: bool,
     /// How many threads all workers share, 1 to 64; none where each has its own, and with `plain` or `stream`.
     pub steal: Option<u32>,
+    /// The path of the memo's file that is begun, which isn't empty; none where none is begun, and with `plain`.
+    pub memo_new: Option<Txt>,
+    /// The path of the memo's file that is read first, which isn't empty; none where none is read, and with `plain`.
+    pub memo: Option<Txt>,
     /// How many lines the generated job has, 1 to 1,000,000; none where a script is run.
     pub generate: Option<u32>,
 }

@@ -100,6 +100,18 @@ fn put_threads(alloc: Global, out: &mut String, line: &Words) -> Result<(), Fail
     Ok(())
 }
 
+fn put_memo(out: &mut String, line: &Words) -> Result<(), Fail> {
+    if let Some(path) = &line.memo_new {
+        out.push_str(" memo-new ")?;
+        out.push_str(path.as_str())?;
+    }
+    if let Some(path) = &line.memo {
+        out.push_str(" memo ")?;
+        out.push_str(path.as_str())?;
+    }
+    Ok(())
+}
+
 fn put_lines(alloc: Global, out: &mut String, line: &Words) -> Result<(), Fail> {
     if let Some(lines) = line.generate {
         out.push_str(" ")?;
@@ -117,11 +129,12 @@ fn put_line(alloc: Global, out: &mut String, line: &Words) -> Result<(), Fail> {
     put_flags(out, line)?;
     put_log(out, line)?;
     put_threads(alloc, out, line)?;
+    put_memo(out, line)?;
     put_lines(alloc, out, line)
 }
 
 /// What the words say: the script, the inputs, the workers, the seed, the losses, the digest, the flags, the log that is written or
-/// gone on from, the threads that are shared and the lines of a generated job, with spaces between; or `no line`.
+/// gone on from, the threads that are shared, the memo that is begun or read and the lines of a generated job, with spaces between; or `no line`.
 pub(crate) fn picture_of(alloc: Global, words: &[Txt]) -> Result<String, Fail> {
     let mut out = String::new(alloc);
     match read_words(alloc, words) {

@@ -5,7 +5,7 @@ use std::alloc::Global;
 use std::test::Fail;
 
 // Words, and what they say: a bar stands between two words.
-static LINES: [(&str, &str); 41] = [
+static LINES: [(&str, &str); 49] = [
     ("s", "s w1 s0 sha1"),
     ("--workers=2|s|--|a=x", "s a=x w2 s0 sha1"),
     ("--|--seed", "--seed w1 s0 sha1"),
@@ -65,6 +65,17 @@ static LINES: [(&str, &str); 41] = [
     ("s|--steal=65", "no line"),
     ("s|--steal=2|--plain", "no line"),
     ("s|--steal=2|--steal=2", "no line"),
+    ("s|--memo-new=m", "s w1 s0 sha1 memo-new m"),
+    (
+        "--memo|m|--steal=2|--generate=4",
+        "w1 s0 sha1 steal 2 memo m 4 lines",
+    ),
+    ("s|--memo=", "no line"),
+    ("s|--memo=a|--memo-new=b", "no line"),
+    ("s|--memo=a|--plain", "no line"),
+    ("s|--memo-new=a|--plain", "no line"),
+    ("s|--memo=a|--stream", "no line"),
+    ("s|--stream|--memo-new=a", "no line"),
 ];
 
 // Whether the words of a row say what stands beside them.

@@ -11,7 +11,6 @@ use Rattle.ciel_run_logged.specs.Ended.{EndsSo}
 use Rattle.ciel_run_logged.specs.Keeping.{KeeperSeen}
 use Rattle.ciel_run_logged.specs.Told.{ToldBy, told_of}
 use Rattle.ciel_master.specs.Views.{entry_view}
-use Rattle.line_kit.specs.Gives.{gives}
 use Rattle.ciel_run_line.specs.Asked.{NoRunOf}
 use Rattle.ciel_run_line.specs.Causes.{AnswersSo, WaySo}
 use Rattle.ciel_run_line.specs.Keeping.{KeepsLog, LogTold, header_of}
@@ -23,13 +22,7 @@ use Rattle.ciel_run_line.proofs.Last.{none_of}
 use Rattle.ciel_run_line.proofs.Onward.{end_ran, end_some, logged_alone, named_other, no_path, own_read, plain_alone, resumed_named, told_alone, told_onward, told_still, unlogged}
 use Rattle.ciel_run_line.proofs.Ran.{memory_answers, memory_ways, plain_answers, plain_ways, run_answers, run_ways}
 use Rattle.ciel_run_line.proofs.Refused.{alone_refuses, end_refuses}
-use Rattle.ciel_run_line.proofs.Shared.{few_threads}
 use Rattle.ciel_run_line.proofs.answer.answer.Goals as goal
-
--- ---- on what its workers work
-
-pub of-hands-requires : goal.of-hands-requires
-of-hands-requires g c = few_threads c.args.line.now c.requires.line
 
 -- ---- by the sequential interpreter
 
@@ -37,21 +30,21 @@ pub returns-then-line-clause-answers : goal.returns-then-line-clause-answers
 returns-then-line-clause-answers g c = λ own.
     let w = c.args.line.now in
     let job = job_view c.args.loaded.job in
-    subst (λ (J : List Entry). AnswersSo w J job c.plainly.result) (sym (ap (map entry_view) c.new.ensures.items))
-    (plain_answers w job c.if-line.true c.plainly.result c.plainly.ensures.bytes c.plainly.ensures.none)
+    subst (λ (J : List Entry). AnswersSo (g.K.Kit.gives c.args.kit) w J job c.plainly.result) (sym (ap (map entry_view) c.new.ensures.items))
+    (plain_answers (g.K.Kit.gives c.args.kit) w job c.if-line.true c.plainly.result c.plainly.ensures.bytes c.plainly.ensures.none)
 
 pub returns-then-line-clause-ways : goal.returns-then-line-clause-ways
 returns-then-line-clause-ways g c =
     let w = c.args.line.now in
     subst (λ (J : List Entry). WaySo w J c.plainly.result) (sym (ap (map entry_view) c.new.ensures.items))
-    (plain_ways w (job_view c.args.loaded.job) c.if-line.true c.plainly.result c.plainly.ensures.none)
+    (plain_ways w (g.K.Kit.gives c.args.kit) (job_view c.args.loaded.job) c.if-line.true c.plainly.result c.plainly.ensures.none)
 
 pub returns-then-line-clause-refuses : goal.returns-then-line-clause-refuses
 returns-then-line-clause-refuses g c =
     let w = c.args.line.now in
     let job = job_view c.args.loaded.job in
-    alone_refuses w [] (plain_alone w c.requires.line c.if-line.true) c.args.loaded.source job c.args.log c.plainly.result
-    (plain_ways w job c.if-line.true c.plainly.result c.plainly.ensures.none)
+    alone_refuses (g.K.Kit.gives c.args.kit) w [] (plain_alone w c.requires.line c.if-line.true) c.args.loaded.source job c.args.log c.plainly.result
+    (plain_ways w (g.K.Kit.gives c.args.kit) job c.if-line.true c.plainly.result c.plainly.ensures.none)
 
 pub returns-then-line-clause-of_other : goal.returns-then-line-clause-of_other
 returns-then-line-clause-of_other g c = λ path bytes e l o.
@@ -61,7 +54,7 @@ pub returns-then-line-clause-told : goal.returns-then-line-clause-told
 returns-then-line-clause-told g c = λ some.
     let w = c.args.line.now in
     let gates = told_of g.G.Gate.entered w.workers c.args.gates.now.items in
-    told_alone w c.args.loaded.source (job_view c.args.loaded.job) c.args.log (map entry_view c.new.result.items) gates gates
+    told_alone (g.K.Kit.gives c.args.kit) w c.args.loaded.source (job_view c.args.loaded.job) c.args.log (map entry_view c.new.result.items) gates gates
     (plain_alone w c.requires.line c.if-line.true)
     (subst (λ (J : List Entry). ToldBy J gates gates) (sym (ap (map entry_view) c.new.ensures.items)) (told_still gates))
 
@@ -76,7 +69,7 @@ returns-then-line-clause-keeps g c =
 
 pub returns-then-line-clause-logged : goal.returns-then-line-clause-logged
 returns-then-line-clause-logged g c = λ own inputs o.
-    untold c.args.line.now c.args.loaded.source inputs (map entry_view c.new.result.items) (g.D.Keep.files c.args.keep.now) LogState.Whole
+    untold (g.K.Kit.gives c.args.kit) c.args.line.now c.args.loaded.source inputs (map entry_view c.new.result.items) (g.D.Keep.files c.args.keep.now) LogState.Whole
     (plain_no_log c.args.line.now c.requires.line c.if-line.true) c.plainly.result
 
 -- ---- its run wasn't planned
@@ -85,8 +78,8 @@ pub returns-in_default-clause-answers : goal.returns-in_default-clause-answers
 returns-in_default-clause-answers g c = λ own.
     let w = c.args.line.now in
     let job = job_view c.args.loaded.job in
-    subst (λ (r : Result (List ℕ) Why). AnswersSo w (map entry_view c.not_run.result.journal.items) job r) (sym c.not_run.ensures.result)
-    (subst (λ (J : List Entry). AnswersSo w J job (Err Why.Memory)) (sym (ap (map entry_view) c.not_run.ensures.empty)) (memory_answers w job))
+    subst (λ (r : Result (List ℕ) Why). AnswersSo (g.K.Kit.gives c.args.kit) w (map entry_view c.not_run.result.journal.items) job r) (sym c.not_run.ensures.result)
+    (subst (λ (J : List Entry). AnswersSo (g.K.Kit.gives c.args.kit) w J job (Err Why.Memory)) (sym (ap (map entry_view) c.not_run.ensures.empty)) (memory_answers (g.K.Kit.gives c.args.kit) w job))
 
 pub returns-in_default-clause-ways : goal.returns-in_default-clause-ways
 returns-in_default-clause-ways g c =
@@ -96,7 +89,7 @@ returns-in_default-clause-ways g c =
 
 pub returns-in_default-clause-refuses : goal.returns-in_default-clause-refuses
 returns-in_default-clause-refuses g c =
-    subst (λ (r : Result (List ℕ) Why). IfErr r (RefusesLog c.args.line.now c.args.loaded.source (job_view c.args.loaded.job) c.args.log))
+    subst (λ (r : Result (List ℕ) Why). IfErr r (RefusesLog (g.K.Kit.gives c.args.kit) c.args.line.now c.args.loaded.source (job_view c.args.loaded.job) c.args.log))
     (sym c.not_run.ensures.result) tt
 
 pub returns-in_default-clause-of_other : goal.returns-in_default-clause-of_other
@@ -119,7 +112,7 @@ returns-in_default-clause-keeps g c =
 
 pub returns-in_default-clause-logged : goal.returns-in_default-clause-logged
 returns-in_default-clause-logged g c = λ own inputs o.
-    subst (LogTold c.args.line.now c.args.loaded.source inputs (map entry_view c.not_run.result.journal.items) (g.D.Keep.files c.args.keep.now)
+    subst (LogTold (g.K.Kit.gives c.args.kit) c.args.line.now c.args.loaded.source inputs (map entry_view c.not_run.result.journal.items) (g.D.Keep.files c.args.keep.now)
     c.not_run.result.state) (sym c.not_run.ensures.result) tt
 
 -- ---- with a log that it begins
@@ -130,7 +123,7 @@ returns-in-Some-clause-answers g c = λ own. c.answer_with_log.ensures.answers
 pub returns-in-Some-clause-refuses : goal.returns-in-Some-clause-refuses
 returns-in-Some-clause-refuses g c =
     let w = c.args.line.now in
-    alone_refuses w (map entry_view c.answer_with_log.result.journal.items) (logged_alone w c.requires.line c.in-Some.path c.in-Some.is)
+    alone_refuses (g.K.Kit.gives c.args.kit) w (map entry_view c.answer_with_log.result.journal.items) (logged_alone w c.requires.line c.in-Some.path c.in-Some.is)
     c.args.loaded.source (job_view c.args.loaded.job) c.args.log c.answer_with_log.result.result c.answer_with_log.ensures.ways
 
 pub returns-in-Some-clause-of_other : goal.returns-in-Some-clause-of_other
@@ -140,7 +133,7 @@ returns-in-Some-clause-of_other g c = λ path bytes e l o.
 pub returns-in-Some-clause-told : goal.returns-in-Some-clause-told
 returns-in-Some-clause-told g c = λ some.
     let w = c.args.line.now in
-    told_alone w c.args.loaded.source (job_view c.args.loaded.job) c.args.log (map entry_view c.answer_with_log.result.journal.items)
+    told_alone (g.K.Kit.gives c.args.kit) w c.args.loaded.source (job_view c.args.loaded.job) c.args.log (map entry_view c.answer_with_log.result.journal.items)
     (told_of g.G.Gate.entered w.workers c.args.gates.now.items) (told_of g.G.Gate.entered w.workers c.answer_with_log.new.gates.items)
     (logged_alone w c.requires.line c.in-Some.path c.in-Some.is) (c.answer_with_log.ensures.told some)
 
@@ -167,13 +160,13 @@ returns-in-Some-resume-clause-answers g c = λ own.
     let w = c.args.line.now in
     let J = map entry_view c.answer_from_log.result.journal.items in
     let gates = told_of g.G.Gate.entered w.workers c.args.gates.now.items in
-    c.answer_from_log.ensures.answers (own_read w c.args.loaded.source (job_view c.args.loaded.job) c.args.log J gates gates c.in-Some-resume.path
+    c.answer_from_log.ensures.answers (own_read (g.K.Kit.gives c.args.kit) w c.args.loaded.source (job_view c.args.loaded.job) c.args.log J gates gates c.in-Some-resume.path
     c.in-Some-log.log c.in-Some-resume.is c.in-Some-log.is own)
 
 pub returns-in-Some-resume-clause-refuses : goal.returns-in-Some-resume-clause-refuses
 returns-in-Some-resume-clause-refuses g c =
     subst (λ (o : Option (List ℕ)). IfErr c.answer_from_log.result.result
-    (RefusesLog c.args.line.now c.args.loaded.source (job_view c.args.loaded.job) o)) (sym c.in-Some-log.is) c.answer_from_log.ensures.refuses
+    (RefusesLog (g.K.Kit.gives c.args.kit) c.args.line.now c.args.loaded.source (job_view c.args.loaded.job) o)) (sym c.in-Some-log.is) c.answer_from_log.ensures.refuses
 
 pub returns-in-Some-resume-clause-of_other : goal.returns-in-Some-resume-clause-of_other
 returns-in-Some-resume-clause-of_other g c =
@@ -184,7 +177,7 @@ returns-in-Some-resume-clause-of_other g c =
 pub returns-in-Some-resume-clause-told : goal.returns-in-Some-resume-clause-told
 returns-in-Some-resume-clause-told g c = λ some.
     let w = c.args.line.now in
-    told_onward w c.args.loaded.source (job_view c.args.loaded.job) c.args.log (map entry_view c.answer_from_log.result.journal.items)
+    told_onward (g.K.Kit.gives c.args.kit) w c.args.loaded.source (job_view c.args.loaded.job) c.args.log (map entry_view c.answer_from_log.result.journal.items)
     (told_of g.G.Gate.entered w.workers c.args.gates.now.items) (told_of g.G.Gate.entered w.workers c.answer_from_log.new.gates.items)
     c.in-Some-resume.path c.in-Some-log.log c.in-Some-resume.is c.in-Some-log.is (c.answer_from_log.ensures.told some)
 
@@ -202,7 +195,7 @@ returns-in-Some-resume-clause-logged g c = λ own.
     let w = c.args.line.now in
     let J = map entry_view c.answer_from_log.result.journal.items in
     let gates = told_of g.G.Gate.entered w.workers c.args.gates.now.items in
-    c.answer_from_log.ensures.logged (own_read w c.args.loaded.source (job_view c.args.loaded.job) c.args.log J gates gates c.in-Some-resume.path
+    c.answer_from_log.ensures.logged (own_read (g.K.Kit.gives c.args.kit) w c.args.loaded.source (job_view c.args.loaded.job) c.args.log J gates gates c.in-Some-resume.path
     c.in-Some-log.log c.in-Some-resume.is c.in-Some-log.is own)
 
 -- ---- with none
@@ -213,9 +206,9 @@ run-end-requires-clause-losses g c κs within =
 
 pub returns-clause-answers : goal.returns-clause-answers
 returns-clause-answers g c = λ own.
-    subst (λ r. AnswersSo c.args.line.now (map entry_view c.run-end.result.journal.items) (job_view c.args.loaded.job) r) (sym c.end_of.ensures)
-    (run_answers c.args.line.now (job_view c.args.loaded.job) (map entry_view c.run-end.result.journal.items) c.if-line.false c.run-end.result.end
-    (subst (λ p. EndsSo (digest_of c.args.line.now.names) (job_view c.args.loaded.job) gives p (map entry_view c.run-end.result.journal.items)
+    subst (λ r. AnswersSo (g.K.Kit.gives c.args.kit) c.args.line.now (map entry_view c.run-end.result.journal.items) (job_view c.args.loaded.job) r) (sym c.end_of.ensures)
+    (run_answers (g.K.Kit.gives c.args.kit) c.args.line.now (job_view c.args.loaded.job) (map entry_view c.run-end.result.journal.items) c.if-line.false c.run-end.result.end
+    (subst (λ p. EndsSo (digest_of c.args.line.now.names) (job_view c.args.loaded.job) (g.K.Kit.gives c.args.kit) p (map entry_view c.run-end.result.journal.items)
     c.run-end.result.end)
     c.in-Ok.ensures.plan c.run-end.ensures.end))
 
@@ -229,8 +222,8 @@ returns-clause-refuses g c =
     let w = c.args.line.now in
     let source = c.args.loaded.source in
     let job = job_view c.args.loaded.job in
-    subst (λ (r : Result (List ℕ) Why). IfErr r (RefusesLog w source job c.args.log)) (sym c.end_of.ensures)
-    (end_refuses w source job c.args.log c.run-end.result.end)
+    subst (λ (r : Result (List ℕ) Why). IfErr r (RefusesLog (g.K.Kit.gives c.args.kit) w source job c.args.log)) (sym c.end_of.ensures)
+    (end_refuses (g.K.Kit.gives c.args.kit) w source job c.args.log c.run-end.result.end)
 
 pub returns-clause-of_other : goal.returns-clause-of_other
 returns-clause-of_other g c = λ path bytes e l o.
@@ -240,7 +233,7 @@ pub returns-clause-told : goal.returns-clause-told
 returns-clause-told g c = λ some.
     let w = c.args.line.now in
     let J = map entry_view c.run-end.result.journal.items in
-    told_alone w c.args.loaded.source (job_view c.args.loaded.job) c.args.log J (told_of g.G.Gate.entered w.workers c.args.gates.now.items)
+    told_alone (g.K.Kit.gives c.args.kit) w c.args.loaded.source (job_view c.args.loaded.job) c.args.log J (told_of g.G.Gate.entered w.workers c.args.gates.now.items)
     (told_of g.G.Gate.entered w.workers c.run-end.new.gates.items) (none_of w.resume c.in_default-resume.not-Some)
     (subst (λ (p : Plan). ToldBy J (told_of g.G.Gate.entered p.workers c.args.gates.now.items)
     (told_of g.G.Gate.entered p.workers c.run-end.new.gates.items)) c.in-Ok.ensures.plan
@@ -266,6 +259,6 @@ returns-clause-keeps g c =
 pub returns-clause-logged : goal.returns-clause-logged
 returns-clause-logged g c = λ own inputs o.
     let w = c.args.line.now in
-    untold w c.args.loaded.source inputs (map entry_view c.run-end.result.journal.items) (g.D.Keep.files c.args.keep.now) LogState.Whole
+    untold (g.K.Kit.gives c.args.kit) w c.args.loaded.source inputs (map entry_view c.run-end.result.journal.items) (g.D.Keep.files c.args.keep.now) LogState.Whole
     (λ path e. no_path (log_path w) path
     (unlogged w c.requires.line (none_of w.log c.in_default-log.not-Some) (none_of w.resume c.in_default-resume.not-Some)) e) c.end_of.result

@@ -17,7 +17,6 @@ use Rattle.ciel_run_logged.specs.Told.{told_of}
 use Rattle.ciel_run_resumed.specs.Keeping.{KeptBy}
 use Rattle.ciel_run_resumed.specs.Resuming.{FileTells, RefusesSo}
 use Rattle.ciel_run_resumed.specs.declared.run.NotResumed.{NotResumed}
-use Rattle.line_kit.specs.Gives.{gives}
 use Rattle.ciel_run_line.specs.Asked.{NoRunOf}
 use Rattle.ciel_run_line.specs.Causes.{AnswersSo, WaySo}
 use Rattle.ciel_run_line.specs.Keeping.{KeepsLog, LogTold, header_of, is_short}
@@ -37,8 +36,8 @@ pub returns-in_default-clause-answers : goal.returns-in_default-clause-answers
 returns-in_default-clause-answers g c = λ own.
     let w = c.args.line.now in
     let job = job_view c.args.loaded.job in
-    subst (λ (r : Result (List ℕ) Why). AnswersSo w (map entry_view c.not_run.result.journal.items) job r) (sym c.not_run.ensures.result)
-    (subst (λ (J : List Entry). AnswersSo w J job (Err Why.Memory)) (sym (ap (map entry_view) c.not_run.ensures.empty)) (memory_answers w job))
+    subst (λ (r : Result (List ℕ) Why). AnswersSo (g.K.Kit.gives c.args.kit) w (map entry_view c.not_run.result.journal.items) job r) (sym c.not_run.ensures.result)
+    (subst (λ (J : List Entry). AnswersSo (g.K.Kit.gives c.args.kit) w J job (Err Why.Memory)) (sym (ap (map entry_view) c.not_run.ensures.empty)) (memory_answers (g.K.Kit.gives c.args.kit) w job))
 
 pub returns-in_default-clause-ways : goal.returns-in_default-clause-ways
 returns-in_default-clause-ways g c =
@@ -49,7 +48,7 @@ returns-in_default-clause-ways g c =
 pub returns-in_default-clause-refuses : goal.returns-in_default-clause-refuses
 returns-in_default-clause-refuses g c =
     let job = job_view c.args.loaded.job in
-    subst (λ (r : Result (List ℕ) Why). IfErr r (RefusesLog c.args.line.now c.args.loaded.source job (Some c.args.log.now)))
+    subst (λ (r : Result (List ℕ) Why). IfErr r (RefusesLog (g.K.Kit.gives c.args.kit) c.args.line.now c.args.loaded.source job (Some c.args.log.now)))
     (sym c.not_run.ensures.result) tt
 
 pub returns-in_default-clause-of_other : goal.returns-in_default-clause-of_other
@@ -73,7 +72,7 @@ returns-in_default-clause-keeps g c =
 
 pub returns-in_default-clause-logged : goal.returns-in_default-clause-logged
 returns-in_default-clause-logged g c = λ own inputs o.
-    subst (LogTold c.args.line.now c.args.loaded.source inputs (map entry_view c.not_run.result.journal.items) (g.D.Keep.files c.args.keep.now)
+    subst (LogTold (g.K.Kit.gives c.args.kit) c.args.line.now c.args.loaded.source inputs (map entry_view c.not_run.result.journal.items) (g.D.Keep.files c.args.keep.now)
     c.not_run.result.state) (sym c.not_run.ensures.result) tt
 
 -- ---- the log is what was read, and its header this line's
@@ -107,11 +106,11 @@ returns-in-Ok-clause-answers g c = λ own.
     let end = c.in-Ok.logged.ran.end in
     let header_is : c.as_slice-2.result.now ≡ header_of w source job.inputs =
     c.as_slice-2.ensures ∙ c.in-Ok-Ok.ensures ∙ ap (λ bytes. header_of w bytes job.inputs) c.as_slice.ensures in
-    let begins = begins_own w source job c.args.log.now c.as_slice-2.result.now c.as_slice-3.result.now plan header_is c.as_slice-3.ensures
+    let begins = begins_own (g.K.Kit.gives c.args.kit) w source job c.args.log.now c.as_slice-2.result.now c.as_slice-3.result.now plan header_is c.as_slice-3.ensures
     c.requires.plan own in
-    subst (λ (r : Result (List ℕ) Why). AnswersSo w J job r) (sym c.end_of.ensures)
-    (run_answers w job J c.requires.plain end
-    (subst (λ (p : Plan). EndsSo (digest_of w.names) job gives p J end) c.requires.plan (c.in-Ok.ensures.end begins)))
+    subst (λ (r : Result (List ℕ) Why). AnswersSo (g.K.Kit.gives c.args.kit) w J job r) (sym c.end_of.ensures)
+    (run_answers (g.K.Kit.gives c.args.kit) w job J c.requires.plain end
+    (subst (λ (p : Plan). EndsSo (digest_of w.names) job (g.K.Kit.gives c.args.kit) p J end) c.requires.plan (c.in-Ok.ensures.end begins)))
 
 pub returns-in-Ok-clause-ways : goal.returns-in-Ok-clause-ways
 returns-in-Ok-clause-ways g c =
@@ -123,8 +122,8 @@ returns-in-Ok-clause-refuses g c =
     let w = c.args.line.now in
     let source = c.args.loaded.source in
     let job = job_view c.args.loaded.job in
-    subst (λ (r : Result (List ℕ) Why). IfErr r (RefusesLog w source job (Some c.args.log.now))) (sym c.end_of.ensures)
-    (end_refuses w source job (Some c.args.log.now) c.in-Ok.logged.ran.end)
+    subst (λ (r : Result (List ℕ) Why). IfErr r (RefusesLog (g.K.Kit.gives c.args.kit) w source job (Some c.args.log.now))) (sym c.end_of.ensures)
+    (end_refuses (g.K.Kit.gives c.args.kit) w source job (Some c.args.log.now) c.in-Ok.logged.ran.end)
 
 pub returns-in-Ok-clause-of_other : goal.returns-in-Ok-clause-of_other
 returns-in-Ok-clause-of_other g c = λ other.
@@ -134,7 +133,7 @@ returns-in-Ok-clause-of_other g c = λ other.
     let header_is : c.as_slice-2.result.now ≡ header_of w source job.inputs =
     c.as_slice-2.ensures ∙ c.in-Ok-Ok.ensures ∙ ap (λ bytes. header_of w bytes job.inputs) c.as_slice.ensures in
     absurd (ran_on c.run_from_log.result NotResumed.OtherJob NotResumed.Memory c.in-Ok.logged c.in-Ok.is
-    (c.run_from_log.ensures.of_other (other_header w source job c.args.log.now c.as_slice-2.result.now c.as_slice-3.result.now
+    (c.run_from_log.ensures.of_other (other_header (g.K.Kit.gives c.args.kit) w source job c.args.log.now c.as_slice-2.result.now c.as_slice-3.result.now
     (plan_view c.args.plan) header_is c.as_slice-3.ensures c.requires.plan other)))
 
 pub returns-in-Ok-clause-told : goal.returns-in-Ok-clause-told
@@ -146,10 +145,10 @@ returns-in-Ok-clause-told g c = λ some.
     let J = map entry_view c.in-Ok.logged.ran.journal.items in
     let header_is : c.as_slice-2.result.now ≡ header_of w source job.inputs =
     c.as_slice-2.ensures ∙ c.in-Ok-Ok.ensures ∙ ap (λ bytes. header_of w bytes job.inputs) c.as_slice.ensures in
-    subst (λ (p : Plan). OnwardTold (λ replayed. OwnIfRead w source job.inputs job (Some c.args.log.now)
-    → ReplaysLog w source job.inputs job c.args.log.now replayed) J (told_of g.G.Gate.entered p.workers c.args.gates.now.items)
+    subst (λ (p : Plan). OnwardTold (λ replayed. OwnIfRead (g.K.Kit.gives c.args.kit) w source job.inputs job (Some c.args.log.now)
+    → ReplaysLog (g.K.Kit.gives c.args.kit) w source job.inputs job c.args.log.now replayed) J (told_of g.G.Gate.entered p.workers c.args.gates.now.items)
     (told_of g.G.Gate.entered p.workers c.run_from_log.new.gates.items)) c.requires.plan
-    (onward_since w source job c.args.log.now c.as_slice-2.result.now c.as_slice-3.result.now plan header_is c.as_slice-3.ensures c.requires.plan J
+    (onward_since (g.K.Kit.gives c.args.kit) w source job c.args.log.now c.as_slice-2.result.now c.as_slice-3.result.now plan header_is c.as_slice-3.ensures c.requires.plan J
     (told_of g.G.Gate.entered c.args.plan.workers c.args.gates.now.items)
     (told_of g.G.Gate.entered c.args.plan.workers c.run_from_log.new.gates.items)
     (c.in-Ok.ensures.told (end_some c.in-Ok.logged.ran.end c.end_of.result c.end_of.ensures some)))
@@ -208,12 +207,12 @@ returns-in-Ok-clause-logged g c = λ own inputs o.
     let end = c.in-Ok.logged.ran.end in
     let header_is : c.as_slice-2.result.now ≡ header_of w source job.inputs =
     c.as_slice-2.ensures ∙ c.in-Ok-Ok.ensures ∙ ap (λ bytes. header_of w bytes job.inputs) c.as_slice.ensures in
-    let begins = begins_own w source job c.args.log.now c.as_slice-2.result.now c.as_slice-3.result.now plan header_is c.as_slice-3.ensures
+    let begins = begins_own (g.K.Kit.gives c.args.kit) w source job c.args.log.now c.as_slice-2.result.now c.as_slice-3.result.now plan header_is c.as_slice-3.ensures
     c.requires.plan own in
     let over_inputs : c.as_slice-2.result.now ≡ header_of w source inputs = header_is ∙ ap (λ is. header_of w source is) o.1 in
-    subst (LogTold w source inputs J now.files state) (sym c.end_of.ensures)
-    (onward_told w c.args.path.now (resumed_named w c.requires.line c.args.path.now c.requires.path) old now source inputs J job o state end
-    (subst (λ (x : Plan × List ℕ × List ℕ). IfOver end (FileTells (digest_of w.names) job gives x.0 x.1 x.2 now.files J state))
+    subst (LogTold (g.K.Kit.gives c.args.kit) w source inputs J now.files state) (sym c.end_of.ensures)
+    (onward_told w c.args.path.now (resumed_named w c.requires.line c.args.path.now c.requires.path) old now (g.K.Kit.gives c.args.kit) source inputs J job o state end
+    (subst (λ (x : Plan × List ℕ × List ℕ). IfOver end (FileTells (digest_of w.names) job (g.K.Kit.gives c.args.kit) x.0 x.1 x.2 now.files J state))
     (λ i. (c.requires.plan i, over_inputs i, c.in-Ok-Ok.ensures' i)) (c.in-Ok.ensures.written begins)))
 
 pub returns-in-Ok-clause-kept : goal.returns-in-Ok-clause-kept
@@ -225,9 +224,9 @@ pub returns-clause-answers : goal.returns-clause-answers
 returns-clause-answers g c = λ own.
     let w = c.args.line.now in
     let job = job_view c.args.loaded.job in
-    subst (λ (r : Result (List ℕ) Why). AnswersSo w (map entry_view c.not_run-in-Err.result.journal.items) job r) (sym c.not_run-in-Err.ensures.result)
-    (subst (λ (J : List Entry). AnswersSo w J job (Err c.why_not.result)) (sym (ap (map entry_view) c.not_run-in-Err.ensures.empty))
-    (refused_answers w c.args.path.now c.in-Err.not c.why_not.result c.why_not.ensures job))
+    subst (λ (r : Result (List ℕ) Why). AnswersSo (g.K.Kit.gives c.args.kit) w (map entry_view c.not_run-in-Err.result.journal.items) job r) (sym c.not_run-in-Err.ensures.result)
+    (subst (λ (J : List Entry). AnswersSo (g.K.Kit.gives c.args.kit) w J job (Err c.why_not.result)) (sym (ap (map entry_view) c.not_run-in-Err.ensures.empty))
+    (refused_answers w c.args.path.now c.in-Err.not c.why_not.result c.why_not.ensures (g.K.Kit.gives c.args.kit) job))
 
 pub returns-clause-ways : goal.returns-clause-ways
 returns-clause-ways g c =
@@ -248,11 +247,11 @@ returns-clause-refuses g c =
     let plan : Plan = plan_view c.args.plan in
     let header_is : header ≡ header_of w source job.inputs =
     c.as_slice-2.ensures ∙ c.in-Ok-Ok.ensures ∙ ap (λ b. header_of w b job.inputs) c.as_slice.ensures in
-    subst (λ (r : Result (List ℕ) Why). IfErr r (RefusesLog w source job (Some log))) (sym c.not_run-in-Err.ensures.result)
-    (refused_cause w c.args.path.now c.in-Err.not c.why_not.result c.why_not.ensures source job log
-    (λ e. header_other w source job log header bytes plan header_is c.as_slice-3.ensures c.requires.plan
+    subst (λ (r : Result (List ℕ) Why). IfErr r (RefusesLog (g.K.Kit.gives c.args.kit) w source job (Some log))) (sym c.not_run-in-Err.ensures.result)
+    (refused_cause w c.args.path.now c.in-Err.not c.why_not.result c.why_not.ensures (g.K.Kit.gives c.args.kit) source job log
+    (λ e. header_other (g.K.Kit.gives c.args.kit) w source job log header bytes plan header_is c.as_slice-3.ensures c.requires.plan
     (c.run_from_log.ensures.other (c.in-Err.is ∙ ap (λ (n : NotResumed). Err n) e)))
-    (λ at e. bad_at w source job log header bytes plan header_is c.as_slice-3.ensures c.requires.plan at
+    (λ at e. bad_at (g.K.Kit.gives c.args.kit) w source job log header bytes plan header_is c.as_slice-3.ensures c.requires.plan at
     (c.run_from_log.ensures.bad at (c.in-Err.is ∙ ap (λ (n : NotResumed). Err n) e))))
 
 pub returns-clause-of_other : goal.returns-clause-of_other
@@ -264,7 +263,7 @@ returns-clause-of_other g c = λ other.
     c.as_slice-2.ensures ∙ c.in-Ok-Ok.ensures ∙ ap (λ bytes. header_of w bytes job.inputs) c.as_slice.ensures in
     other_ended w c.args.path.now c.in-Err.not c.why_not.result c.why_not.ensures c.not_run-in-Err.result.result c.not_run-in-Err.ensures.result
     (which_not c.run_from_log.result NotResumed.OtherJob NotResumed.Memory c.in-Err.not c.in-Err.is
-    (c.run_from_log.ensures.of_other (other_header w source job c.args.log.now c.as_slice-2.result.now c.as_slice-3.result.now
+    (c.run_from_log.ensures.of_other (other_header (g.K.Kit.gives c.args.kit) w source job c.args.log.now c.as_slice-2.result.now c.as_slice-3.result.now
     (plan_view c.args.plan) header_is c.as_slice-3.ensures c.requires.plan other)))
 
 pub returns-clause-told : goal.returns-clause-told
@@ -314,9 +313,9 @@ pub returns-clause-logged : goal.returns-clause-logged
 returns-clause-logged g c = λ own inputs o.
     let w = c.args.line.now in
     let J = map entry_view c.not_run-in-Err.result.journal.items in
-    subst (LogTold w c.args.loaded.source inputs J (g.D.Keep.files c.run_from_log.new.keep) c.not_run-in-Err.result.state)
+    subst (LogTold (g.K.Kit.gives c.args.kit) w c.args.loaded.source inputs J (g.D.Keep.files c.run_from_log.new.keep) c.not_run-in-Err.result.state)
     (sym c.not_run-in-Err.ensures.result)
-    (refused_told w c.args.loaded.source inputs J (g.D.Keep.files c.run_from_log.new.keep) c.not_run-in-Err.result.state c.args.path.now c.in-Err.not
+    (refused_told (g.K.Kit.gives c.args.kit) w c.args.loaded.source inputs J (g.D.Keep.files c.run_from_log.new.keep) c.not_run-in-Err.result.state c.args.path.now c.in-Err.not
     c.why_not.result c.why_not.ensures)
 
 pub returns-clause-kept : goal.returns-clause-kept

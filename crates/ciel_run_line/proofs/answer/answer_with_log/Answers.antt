@@ -15,7 +15,6 @@ use Rattle.ciel_run_line.specs.Causes.{AnswersSo, WaySo}
 use Rattle.ciel_run_line.specs.Keeping.{KeepsLog, LogTold, header_of}
 use Rattle.ciel_run_line.specs.Runs.{digest_of, log_at, log_path, plan_of}
 use Rattle.ciel_run_log.specs.declared.why.Why.{Why}
-use Rattle.line_kit.specs.Gives.{gives}
 use Rattle.ciel_run_line.proofs.Began.{log_told, run_keeps, unbegun_keeps, unbegun_told}
 use Rattle.ciel_run_line.proofs.Ran.{memory_answers, memory_ways, run_answers, run_ways, unbegun_answers, unbegun_ways}
 use Rattle.ciel_run_line.proofs.answer.answer_with_log.Goals as goal
@@ -24,12 +23,12 @@ pub returns-in-Err-clause-answers : goal.returns-in-Err-clause-answers
 returns-in-Err-clause-answers g c =
     let w = c.args.line.now in
     let job = job_view c.args.loaded.job in
-    let none : AnswersSo w [] job (Err c.in-Err.why) =
-    ⊎_elim (λ m. subst (λ (y : Why). AnswersSo w [] job (Err y)) (sym m) (memory_answers w job))
-    (λ f. subst (λ (y : Why). AnswersSo w [] job (Err y)) (sym f.0) (unbegun_answers w job c.args.path.now))
+    let none : AnswersSo (g.K.Kit.gives c.args.kit) w [] job (Err c.in-Err.why) =
+    ⊎_elim (λ m. subst (λ (y : Why). AnswersSo (g.K.Kit.gives c.args.kit) w [] job (Err y)) (sym m) (memory_answers (g.K.Kit.gives c.args.kit) w job))
+    (λ f. subst (λ (y : Why). AnswersSo (g.K.Kit.gives c.args.kit) w [] job (Err y)) (sym f.0) (unbegun_answers (g.K.Kit.gives c.args.kit) w job c.args.path.now))
     c.in-Err.ensures.failed in
-    subst (λ (r : Result (List ℕ) Why). AnswersSo w (map entry_view c.not_run.result.journal.items) job r) (sym c.not_run.ensures.result)
-    (subst (λ (J : List Entry). AnswersSo w J job (Err c.in-Err.why)) (sym (ap (map entry_view) c.not_run.ensures.empty)) none)
+    subst (λ (r : Result (List ℕ) Why). AnswersSo (g.K.Kit.gives c.args.kit) w (map entry_view c.not_run.result.journal.items) job r) (sym c.not_run.ensures.result)
+    (subst (λ (J : List Entry). AnswersSo (g.K.Kit.gives c.args.kit) w J job (Err c.in-Err.why)) (sym (ap (map entry_view) c.not_run.ensures.empty)) none)
 
 pub returns-in-Err-clause-ways : goal.returns-in-Err-clause-ways
 returns-in-Err-clause-ways g c =
@@ -62,9 +61,9 @@ returns-in-Err-clause-keeps g c =
 
 pub returns-in-Err-clause-logged : goal.returns-in-Err-clause-logged
 returns-in-Err-clause-logged g c = λ inputs o.
-    subst (LogTold c.args.line.now c.args.loaded.source inputs (map entry_view c.not_run.result.journal.items)
+    subst (LogTold (g.K.Kit.gives c.args.kit) c.args.line.now c.args.loaded.source inputs (map entry_view c.not_run.result.journal.items)
     (g.D.Keep.files c.begin_log.new.keep) c.not_run.result.state) (sym c.not_run.ensures.result)
-    (unbegun_told c.args.line.now c.args.loaded.source inputs (map entry_view c.not_run.result.journal.items)
+    (unbegun_told (g.K.Kit.gives c.args.kit) c.args.line.now c.args.loaded.source inputs (map entry_view c.not_run.result.journal.items)
     (g.D.Keep.files c.begin_log.new.keep) c.not_run.result.state c.in-Err.why c.args.path.now
     (HasRisen (g.D.Keep.faults c.args.keep.now) (g.D.Keep.faults c.begin_log.new.keep))
     (Tells (g.D.Keep.asked c.args.keep.now) (g.D.Keep.asked c.begin_log.new.keep) (c.args.path.now ∷ [])) c.in-Err.ensures.failed)
@@ -76,9 +75,9 @@ run_with_log-end-requires-clause-losses g c κs within =
 pub returns-clause-answers : goal.returns-clause-answers
 returns-clause-answers g c =
     let J = map entry_view c.run_with_log-end.result.ran.journal.items in
-    subst (λ r. AnswersSo c.args.line.now J (job_view c.args.loaded.job) r) (sym c.end_of.ensures)
-    (run_answers c.args.line.now (job_view c.args.loaded.job) J c.requires.plain c.run_with_log-end.result.ran.end
-    (subst (λ p. EndsSo (digest_of c.args.line.now.names) (job_view c.args.loaded.job) gives p J c.run_with_log-end.result.ran.end)
+    subst (λ r. AnswersSo (g.K.Kit.gives c.args.kit) c.args.line.now J (job_view c.args.loaded.job) r) (sym c.end_of.ensures)
+    (run_answers (g.K.Kit.gives c.args.kit) c.args.line.now (job_view c.args.loaded.job) J c.requires.plain c.run_with_log-end.result.ran.end
+    (subst (λ p. EndsSo (digest_of c.args.line.now.names) (job_view c.args.loaded.job) (g.K.Kit.gives c.args.kit) p J c.run_with_log-end.result.ran.end)
     c.requires.plan c.run_with_log-end.ensures.end))
 
 pub returns-clause-ways : goal.returns-clause-ways
@@ -145,11 +144,11 @@ returns-clause-logged g c = λ inputs o.
     let end = c.run_with_log-end.result.ran.end in
     let keeps : end ≢ RunEnd.Memory → Keeps c.args.path.now held begun now state =
     (λ over. subst (λ (p : List ℕ). Keeps p held begun now state) c.in-Ok.ensures.path (c.run_with_log-end.ensures.keeps over)) in
-    let written : IfOver end (LogWritten (digest_of w.names) job gives (plan_of w) c.args.path.now held begun.files now.files J state) =
-    subst (λ (x : Plan × List ℕ). IfOver end (LogWritten (digest_of w.names) job gives x.0 x.1 held begun.files now.files J state))
+    let written : IfOver end (LogWritten (digest_of w.names) job (g.K.Kit.gives c.args.kit) (plan_of w) c.args.path.now held begun.files now.files J state) =
+    subst (λ (x : Plan × List ℕ). IfOver end (LogWritten (digest_of w.names) job (g.K.Kit.gives c.args.kit) x.0 x.1 held begun.files now.files J state))
     (λ i. (c.requires.plan i, c.in-Ok.ensures.path i)) c.run_with_log-end.ensures.written in
     let named : log_path c.args.line.now ≡ Some c.args.path.now = ap (λ (o : Option (List ℕ)). log_at o c.args.line.now.resume) c.requires.path in
-    subst (LogTold w c.args.loaded.source inputs J now.files state) (sym c.end_of.ensures)
+    subst (LogTold (g.K.Kit.gives c.args.kit) w c.args.loaded.source inputs J now.files state) (sym c.end_of.ensures)
     (log_told w c.args.path.now named (header_of w c.as_slice.result.now job.inputs) old begun now c.in-Ok.ensures.begun
-    c.in-Ok.ensures.never_falls c.in-Ok.ensures.asked held c.in-Ok.ensures.size state c.args.loaded.source inputs J job o
+    c.in-Ok.ensures.never_falls c.in-Ok.ensures.asked held c.in-Ok.ensures.size state (g.K.Kit.gives c.args.kit) c.args.loaded.source inputs J job o
     (ap₂ (λ bytes is. header_of w bytes is) c.as_slice.ensures o.1) end keeps written)

@@ -6,8 +6,8 @@ use Rattle.ciel_run_load.specs.Line.{keys_of, name_in}
 use Rattle.ciel_run_load.specs.Line as files
 use Rattle.ciel_run_load.specs.Loading.{AllRead, AsksJob, IsLoaded, NotLoaded, StopsJob}
 use Rattle.ciel_run_line.specs.Asked.{AsksFor, StopsFor}
-use Rattle.ciel_run_line.specs.Causes.{NoJobBy}
-use Rattle.ciel_run_line.specs.Line.{files_of, paths_in, resumed}
+use Rattle.ciel_run_line.specs.Causes.{NoneBefore}
+use Rattle.ciel_run_line.specs.Line.{behind_job, files_of, paths_in}
 use Rattle.ciel_run_line.proofs.Named.{few_inputs, loaded_all, loaded_of, not_loaded_asks, not_loaded_of, not_loaded_order, short_keys}
 use Rattle.ciel_run_line.proofs.lines.job_of.Goals as goal
 
@@ -34,7 +34,7 @@ pub returns-in-Err-clause-none : goal.returns-in-Err-clause-none
 returns-in-Err-clause-none g c =
     let content = g.F.Files.content c.args.files.now in
     let risen = HasRisen (g.F.Files.faults c.args.files.now) (g.F.Files.faults c.load.new.files) in
-    subst (NoJobBy content c.args.line.now risen []) (sym c.why_no_job.ensures)
+    subst (NoneBefore content c.args.line.now risen []) (sym c.why_no_job.ensures)
     (not_loaded_of content c.args.line.now risen c.in-Some.path c.in-Err.no c.in-Some.is
     (subst (λ (is : List (List ℕ × List ℕ)). NotLoaded content (record { script = c.in-Some.path; inputs = is }) risen c.in-Err.no)
     c.as_slice.ensures c.in-Err.ensures.refused))
@@ -50,8 +50,8 @@ returns-in-Err-clause-asks g c =
     let w = c.args.line.now in
     let b = g.F.Files.asked c.args.files.now in
     let n = g.F.Files.asked c.load.new.files in
-    subst (λ y. AsksFor y (paths_in (files_of w)) (resumed w.resume) b n) (sym c.why_no_job.ensures)
-    (not_loaded_asks (g.F.Files.content c.args.files.now) w c.in-Some.path c.in-Err.no (resumed w.resume) b n c.in-Some.is
+    subst (λ y. AsksFor y (paths_in (files_of w)) (behind_job w) b n) (sym c.why_no_job.ensures)
+    (not_loaded_asks (g.F.Files.content c.args.files.now) w c.in-Some.path c.in-Err.no (behind_job w) b n c.in-Some.is
     (subst (λ (is : List (List ℕ × List ℕ)). AsksJob c.in-Err.no (files.paths_of (record { script = c.in-Some.path; inputs = is })) b n)
     c.as_slice.ensures c.in-Err.ensures.asks))
 
@@ -61,7 +61,7 @@ returns-in-Err-clause-order g c =
     let content = g.F.Files.content c.args.files.now in
     let b = g.F.Files.asked c.args.files.now in
     let n = g.F.Files.asked c.load.new.files in
-    subst (StopsFor content (files_of w) w.resume b n) (sym c.why_no_job.ensures)
+    subst (StopsFor content (files_of w) w.memo w.resume b n) (sym c.why_no_job.ensures)
     (not_loaded_order content w c.in-Some.path c.in-Err.no b n c.in-Some.is
     (subst (λ (is : List (List ℕ × List ℕ)). StopsJob content (record { script = c.in-Some.path; inputs = is }) b n c.in-Err.no)
     c.as_slice.ensures c.in-Err.ensures.order))

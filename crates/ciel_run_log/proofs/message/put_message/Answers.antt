@@ -101,6 +101,18 @@ returns-in-OtherJob-clause-part g c =
     subst (λ (m : List ℕ). OnErr c.put_all-in-OtherJob.result
     (TellsPart (g.J.Sink.written c.args.log.now) (g.J.Sink.written c.put_all-in-OtherJob.new.sink) m)) same c.put_all-in-OtherJob.ensures.part
 
+pub returns-in-BadMemo-clause-written : goal.returns-in-BadMemo-clause-written
+returns-in-BadMemo-clause-written g c =
+    let same : pathed (codes "ciel: bad memo ") c.in-BadMemo.path c.in-BadMemo.at ≡ message_of c.args.why.now = ap message_of (sym c.in-BadMemo.is) in
+    subst (λ (m : List ℕ). OnOk c.put_path-in-BadMemo.result (Tells (g.J.Sink.written c.args.log.now) (g.J.Sink.written c.put_path-in-BadMemo.new.log) m)) same
+    c.put_path-in-BadMemo.ensures.written
+
+pub returns-in-BadMemo-clause-part : goal.returns-in-BadMemo-clause-part
+returns-in-BadMemo-clause-part g c =
+    let same : pathed (codes "ciel: bad memo ") c.in-BadMemo.path c.in-BadMemo.at ≡ message_of c.args.why.now = ap message_of (sym c.in-BadMemo.is) in
+    subst (λ (m : List ℕ). OnErr c.put_path-in-BadMemo.result (TellsPart (g.J.Sink.written c.args.log.now) (g.J.Sink.written c.put_path-in-BadMemo.new.log) m)) same
+    c.put_path-in-BadMemo.ensures.part
+
 pub returns-in-LogFull-clause-written : goal.returns-in-LogFull-clause-written
 returns-in-LogFull-clause-written g c =
     let same : pathed (codes "ciel: log full ") c.in-LogFull.path c.in-LogFull.held ≡ message_of c.args.why.now = ap message_of (sym c.in-LogFull.is) in

@@ -19,7 +19,9 @@ returns c =
     let six = c.in_ok-arg-6.ensures.shape c.option-6.ensures.local ∙ ap₂ with_rule five c.option-6.ensures.rule in
     let seven = c.in_ok-arg-7.ensures.shape c.option-7.ensures.local ∙ ap₂ with_rule six c.option-7.ensures.rule in
     let eight = c.in_ok-arg-8.ensures.shape c.option-8.ensures.local ∙ ap₂ with_rule seven c.option-8.ensures.rule in
-    let nine = c.in_ok-arg-9.ensures.shape c.flag.ensures.local ∙ ap₂ with_rule eight c.flag.ensures.rule in
-    let ten = c.in_ok-arg-10.ensures.shape c.flag-2.ensures.local ∙ ap₂ with_rule nine c.flag-2.ensures.rule in
-    let eleven = c.in_ok-arg-11.ensures.shape c.flag-3.ensures.local ∙ ap₂ with_rule ten c.flag-3.ensures.rule in
-    IfOk-weaker c.arg-12.result _ _ (λ r h. h.shape c.words.ensures.local ∙ ap₂ with_rule eleven c.words.ensures.rule) c.arg-12.ensures
+    let nine = c.in_ok-arg-9.ensures.shape c.option-9.ensures.local ∙ ap₂ with_rule eight c.option-9.ensures.rule in
+    let ten = c.in_ok-arg-10.ensures.shape c.option-10.ensures.local ∙ ap₂ with_rule nine c.option-10.ensures.rule in
+    let eleven = c.in_ok-arg-11.ensures.shape c.flag.ensures.local ∙ ap₂ with_rule ten c.flag.ensures.rule in
+    let twelve = c.in_ok-arg-12.ensures.shape c.flag-2.ensures.local ∙ ap₂ with_rule eleven c.flag-2.ensures.rule in
+    let thirteen = c.in_ok-arg-13.ensures.shape c.flag-3.ensures.local ∙ ap₂ with_rule twelve c.flag-3.ensures.rule in
+    IfOk-weaker c.arg-14.result _ _ (λ r h. h.shape c.words.ensures.local ∙ ap₂ with_rule thirteen c.words.ensures.rule) c.arg-14.ensures

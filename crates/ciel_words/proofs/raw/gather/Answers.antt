@@ -25,8 +25,14 @@ returns-clause-resume c = c.get_str-6.ensures ∙ first_value-rows (found_of c.a
 pub returns-clause-steal : goal.returns-clause-steal
 returns-clause-steal c = c.get_str-7.ensures ∙ first_value-rows (found_of c.args.matches.now) (codes "steal")
 
+pub returns-clause-memo_new : goal.returns-clause-memo_new
+returns-clause-memo_new c = c.get_str-8.ensures ∙ first_value-rows (found_of c.args.matches.now) (codes "memo-new")
+
+pub returns-clause-memo : goal.returns-clause-memo
+returns-clause-memo c = c.get_str-9.ensures ∙ first_value-rows (found_of c.args.matches.now) (codes "memo")
+
 pub returns-clause-generate : goal.returns-clause-generate
-returns-clause-generate c = c.get_str-8.ensures ∙ first_value-rows (found_of c.args.matches.now) (codes "generate")
+returns-clause-generate c = c.get_str-10.ensures ∙ first_value-rows (found_of c.args.matches.now) (codes "generate")
 
 pub returns-clause-trace : goal.returns-clause-trace
 returns-clause-trace c =

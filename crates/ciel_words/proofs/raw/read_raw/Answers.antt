@@ -17,9 +17,11 @@ returns-in-Ok-gather-clause-raw c =
     let fine = no_fault (app_of c.in-Ok.command) ws c.in-Ok.ensures c.in-Ok-try_get_matches_from.ensures.kinds in
     let behind : dash_behind false ws ≡ false = cc in
     said ws c.are_texts.ensures behind fine (text_of raw.workers) (text_of raw.seed) (text_of raw.lose) (text_of raw.names) (text_of raw.log)
-    (text_of raw.resume) (text_of raw.steal) (text_of raw.generate) raw.trace raw.plain raw.stream (map (λ w. w.now) raw.words.items)
+    (text_of raw.resume) (text_of raw.steal) (text_of raw.memo_new) (text_of raw.memo) (text_of raw.generate) raw.trace raw.plain raw.stream
+    (map (λ w. w.now) raw.words.items)
     (subst (λ (R : List Row). Matched R (text_of raw.workers) (text_of raw.seed) (text_of raw.lose) (text_of raw.names) (text_of raw.log)
-    (text_of raw.resume) (text_of raw.steal) (text_of raw.generate) raw.trace raw.plain raw.stream (map (λ w. w.now) raw.words.items)) same
+    (text_of raw.resume) (text_of raw.steal) (text_of raw.memo_new) (text_of raw.memo) (text_of raw.generate) raw.trace raw.plain raw.stream
+    (map (λ w. w.now) raw.words.items)) same
     (record {
       workers_is = told.workers;
       seed_is = told.seed;
@@ -28,6 +30,8 @@ returns-in-Ok-gather-clause-raw c =
       log_is = told.log;
       resume_is = told.resume;
       steal_is = told.steal;
+      memo_new_is = told.memo_new;
+      memo_is = told.memo;
       generate_is = told.generate;
       trace_is = told.trace;
       plain_is = told.plain;
