@@ -14,6 +14,7 @@ use Rattle.ciel_look_tasks.specs.Tasks.{begun}
 use Rattle.ciel_look_text.specs.Asked.{any_has, is_started}
 use Rattle.ciel_look_text.specs.Text as lines
 use Rattle.ciel_look_text.specs.Text.{lines_of}
+use Rattle.ciel_look_text.specs.Why.{IsWhyOf}
 use Rattle.ciel_look_run.specs.Line as line
 use Rattle.ciel_look_run.specs.Line.{Asked, line_of}
 use Rattle.ciel_io.specs.declared.files.FileRefusal.{FileRefusal}
@@ -44,10 +45,10 @@ IsThere line.picture tasks = Unit {0}
 abbrev pub IsTold : Asked → Head → List Told → Type 0
 IsTold asked head ts = IsThere asked (flat_map begun ts)
 
--- the text is, line by line, of what is seen; the picture shows it
+-- the text is, line by line, of what is seen, or says why the task was started; the picture shows it
 abbrev pub IsOf : Asked → Seen → List ℕ → Type 0
 IsOf line.text s text = text ≡ lines.text (lines_of s)
-IsOf (line.why digits) s text = Unit {0}
+IsOf (line.why digits) s text = IsWhyOf digits s text
 IsOf line.picture s text = Shows s text
 
 -- of a run that is seen as it was told

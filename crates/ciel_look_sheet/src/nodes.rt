@@ -1,20 +1,17 @@
 //! Kinds of tasks with their colours, and their labels.
 
 ghost use Rattle.std.specs.Prelude.{◌≡◌, IfOk, Some};
-ghost use Rattle.sky_base.specs.declared.object.TaskId.{TaskId};
 ghost use Rattle.ciel_look_shown.specs.Plain.{shown};
 ghost use Rattle.ciel_look_tasks.specs.Heads.{own_desc};
 ghost use Rattle.ciel_look_tasks.specs.Known.{known_view};
 ghost use Rattle.ciel_look_tasks.specs.SceneView.{row_view};
-ghost use Rattle.ciel_look_tasks.specs.Tasks.{same_task};
 ghost use Rattle.ciel_look_sheet.specs.Titles.{named_title, row_title, task_title, whole_name};
 
 use ciel_look_shown::plain::Plain;
-use ciel_look_tasks::scene::{Scene, Task};
+use ciel_look_tasks::scene::{Scene, Task, is_own};
 use ciel_look_words::known::Known;
 use ciel_look_words::label::{label_of, whole};
 use ciel_look_words::words;
-use sky_base::name::Name;
 use sky_base::object::{Desc1, TaskId};
 use sky_base::text::Memory;
 use std::alloc::Global;
@@ -98,16 +95,6 @@ fn own_tip(alloc: Global, id: &TaskId, known: &Known) -> Result<Plain, Memory>
     }
     let name = task_name(alloc, id)?;
     Ok(name)
-}
-
-/// Whether the name is that of the task.
-fn is_own(id: &TaskId, name: &Name) -> bool
-    ensures { result ≡ same_task id.now (TaskId.Of name.now) }
-{
-    match id {
-        TaskId::Show => false,
-        TaskId::Of(own) => own == name,
-    }
 }
 
 /// The whole name of a description behind its words.

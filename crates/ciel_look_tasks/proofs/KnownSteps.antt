@@ -19,8 +19,8 @@ use Rattle.ciel_look_told.specs.declared.header.Input.{Input}
 use Rattle.ciel_look_told.specs.declared.told.Told.{Told}
 use Rattle.ciel_look_words.specs.Named.{name_of}
 use Rattle.ciel_look_words.specs.declared.known.Known.{Known}
-use Rattle.ciel_look_tasks.specs.Known.{Named, known_as, known_view, knowns, named_at, named_ids, place_of, with_known}
-use Rattle.ciel_look_tasks.specs.Learned.{given, input_desc, known, learned, spawned, with_name}
+use Rattle.ciel_look_tasks.specs.Known.{Named, known_as, known_view, knowns, maker_as, maker_view, makers, named_at, named_ids, place_of, with_known}
+use Rattle.ciel_look_tasks.specs.Learned.{AreMade, given, input_desc, known, learned, made_by, maker, spawned, with_name}
 use Rattle.ciel_look_tasks.specs.Tasks.{place_in}
 use Rattle.ciel_look_tasks.proofs.TaskLists.{found_more}
 
@@ -68,10 +68,49 @@ found_there n ks p (Some k) e g = known_place n ks ∙ ap (λ o. by_place o ks) 
 pub found_nowhere : (n : List ℕ) (ks : List Known) → None ≡ place_of n ks → known_as n (knowns ks) ≡ None
 found_nowhere n ks e = known_place n ks ∙ ap (λ o. by_place o ks) (sym e)
 
+-- the task that makes it
+
+abbrev task_of : Known → TaskId
+task_of k = k.task
+
+abbrev task_by : Option ℕ → List Known → Option TaskId
+task_by None ks = None
+task_by (Some p) ks = option_map task_of (slice_get ks p)
+
+maker_place : (n : List ℕ) (ks : List Known) → maker_as n (makers ks) ≡ task_by (place_of n ks) ks
+maker_place n [] = refl
+maker_place n (k ∷ ks) = go (same_text n k.name) (place_of n ks) (maker_place n ks)
+  where
+    go : (b : Bool) (o : Option ℕ) → maker_as n (makers ks) ≡ task_by o ks
+        → cond b (Some k.task) (maker_as n (makers ks)) ≡ task_by (cond b (Some 0) (option_map suc o)) (k ∷ ks)
+    go true o h = refl
+    go false None h = h
+    go false (Some p) h = h
+
+pub maker_there : (n : List ℕ) (ks : List Known) (p : ℕ) (r : Option (Bor Known)) → Some p ≡ place_of n ks → option_copied r ≡ slice_get ks p
+    → MatchOption r (maker_as n (makers ks) ≡ None) (λ k. maker_as n (makers ks) ≡ Some k.now.task)
+maker_there n ks p None e g = maker_place n ks ∙ ap (λ o. task_by o ks) (sym e) ∙ ap (option_map task_of) (sym g)
+maker_there n ks p (Some k) e g = maker_place n ks ∙ ap (λ o. task_by o ks) (sym e) ∙ ap (option_map task_of) (sym g)
+
+pub maker_nowhere : (n : List ℕ) (ks : List Known) → None ≡ place_of n ks → maker_as n (makers ks) ≡ None
+maker_nowhere n ks e = maker_place n ks ∙ ap (λ o. task_by o ks) (sym e)
+
 pub named_there : (ks : List Known) (o : Option ℕ) (p : ℕ) (r : Option (Bor Known)) → o ≡ Some p → option_copied r ≡ slice_get ks p
     → MatchOption r (named_at ks o ≡ None) (λ k. named_at ks o ≡ Some (known_view k.now))
 named_there ks o p None e g = ap (named_at ks) e ∙ slice_get-map known_view ks p ∙ ap (option_map known_view) (sym g)
 named_there ks o p (Some k) e g = ap (named_at ks) e ∙ slice_get-map known_view ks p ∙ ap (option_map known_view) (sym g)
+
+-- ---- the tasks that make it
+
+pub made_none : (b : Bool) (ks : List Known) → ks ≡ [] → AreMade b ks
+made_none b ks e = subst (AreMade b) (sym e) refl
+
+pub made_push : (b : Bool) (xs ys : List Known) (x : Known) → ys ≡ xs ++ x ∷ [] → x.short ≡ b → AreMade b xs → AreMade b ys
+made_push b xs ys x p e h =
+    ap makers p ∙ map-append maker_view xs (x ∷ []) ∙ ap (λ z. z ++ maker_view x ∷ []) h
+    ∙ ap (λ t. map (made_by b) (knowns xs) ++ (x.name, t) ∷ []) (x.made ∙ ap (λ c. maker c (desc_view x.desc)) e)
+    ∙ sym (ap (λ zs. map (made_by b) (knowns zs)) p ∙ ap (map (made_by b)) (map-append known_view xs (x ∷ []))
+    ∙ map-append (made_by b) (knowns xs) (known_view x ∷ []))
 
 -- ---- what is learned
 

@@ -1,3 +1,6 @@
+pub mod AgainSteps
+pub mod CutSteps
+pub mod HappenedSteps
 pub mod HeadSteps
 pub mod KnownSteps
 pub mod OrderPlaces

@@ -30,7 +30,7 @@ last_push n [] m = go (nat_eq m n)
 last_push n (k ∷ ms) m =
     ap (or_here (nat_eq k n)) (last_push n ms m) ∙ or_there (nat_eq k n) (nat_eq m n) (length ms) (last_of n ms)
 
-same_number : (k q : ℕ) → is_eq (nat_cmp k q) ≡ nat_eq k q
+pub same_number : (k q : ℕ) → is_eq (nat_cmp k q) ≡ nat_eq k q
 same_number k q = go (nat_eq k q) refl
   where
     go : (b : Bool) → nat_eq k q ≡ b → is_eq (nat_cmp k q) ≡ b
@@ -138,7 +138,7 @@ module _ {A : Type 0} (f : A → A) where
   abbrev pub So : ℕ → List A → List A
   So i xs = map f (take i xs) ++ drop i xs
 
-  so_get : (xs : List A) (i : ℕ) → slice_get (So i xs) i ≡ slice_get xs i
+  pub so_get : (xs : List A) (i : ℕ) → slice_get (So i xs) i ≡ slice_get xs i
   so_get [] zero = refl
   so_get [] (suc i) = refl
   so_get (x ∷ xs) zero = refl

@@ -192,7 +192,10 @@ losses_next ts e us vs u v =
     v ∙ ap (λ xs. xs ++ loss_of (told_view e)) u ∙ ap (λ xs. losses (map told_view ts) ++ xs) (sym (append-nil (loss_of (told_view e))))
     ∙ sym (flat_map-append loss_of (map told_view ts) (told_view e ∷ [])) ∙ sym (ap losses (map-append told_view ts (e ∷ [])))
 
--- ---- an order that ends
+-- ---- an order more, and one that ends
+
+pub starts_pushed : (xs ys : List Run) (x : Run) → ys ≡ xs ++ x ∷ [] → starts_view ys ≡ starts_view xs ++ start_view x ∷ []
+starts_pushed xs ys x e = ap starts_view e ∙ map-append start_view xs (x ∷ [])
 
 pub starts_closed : (rs : List Run) (i : ℕ) (x y : Run) → start_view y ≡ start_view x → x ≡ get_or rs i x
     → starts_view (set rs i y) ≡ starts_view rs

@@ -1,6 +1,6 @@
 -- The orders, as the code keeps them.
 use Rattle.std.proofs.Common.{◌≡◌, ◌<◌, ℕ, List, [], ◌∷◌, ◌++◌, length, map, set, slice_get, get_or, Option, Some, None, option_map}
-use Rattle.std.proofs.Common.{true, false, refl, ap, sym, ◌∙◌, subst, is_some, IfSome, MatchOption}
+use Rattle.std.proofs.Common.{true, false, cond, refl, ap, sym, ◌∙◌, subst, is_some, IfSome, MatchOption}
 use Rattle.std.specs.BTreeMap.{BTreeMap, Updates, get}
 use Rattle.std.specs.Ordering.{nat_cmp}
 use Rattle.std.proofs.Math.Seq.{map-set_same}
@@ -9,6 +9,7 @@ use Rattle.std.proofs.lemmas.Option.{slice_get-map, slice_get_read}
 use Rattle.ciel_look_told.specs.View.{told_view}
 use Rattle.ciel_look_told.specs.Told.{Outcome}
 use Rattle.ciel_look_told.specs.declared.told.Told.{Told}
+use Rattle.ciel_look_tasks.specs.Happened.{closing, closing_at}
 use Rattle.ciel_look_tasks.specs.Orders as order
 use Rattle.ciel_look_tasks.specs.Orders.{Ending, after_told, closed, is_open_at, last_of, orders}
 use Rattle.ciel_look_tasks.specs.Tasks.{Start}
@@ -35,7 +36,7 @@ numbers_closed rs i x y e v = map-set_same run_number rs i y x (e ∙ ap run_num
 pub orders_pushed : (xs ys : List Run) (x : Run) → ys ≡ xs ++ x ∷ [] → orders_view ys ≡ orders_view xs ++ order_ends x ∷ []
 orders_pushed xs ys x e = ap orders_view e ∙ map-append order_ends xs (x ∷ [])
 
-numbers_seen : (rs : List Run) → map number_at (orders_view rs) ≡ numbers rs
+pub numbers_seen : (rs : List Run) → map number_at (orders_view rs) ≡ numbers rs
 numbers_seen [] = refl
 numbers_seen (r ∷ rs) = ap (λ ns. run_number r ∷ ns) (numbers_seen rs)
 
@@ -84,6 +85,20 @@ pub order_held : (rs : List Run) (n p : ℕ) (r : Option Held) → Some p ≡ la
     × ((how : Outcome) → closed n how (orders_view rs) ≡ set (orders_view rs) h.run (s, order.ended how)))
 order_held rs n p None e k at = order_over rs n p e (sym k)
 order_held rs n p (Some h) e k at = order_out rs n h.run (ap Some at ∙ e) (ap (λ q. is_open_at (slice_get (orders_view rs) q)) at ∙ sym k)
+
+-- where it stands
+pub order_place : (rs : List Run) (n p : ℕ) (r : Option Held) → Some p ≡ last_of n (numbers rs)
+    → is_some r ≡ is_open_at (slice_get (orders_view rs) p) → IfSome r (λ h. h.run ≡ p)
+    → option_map (λ (h : Held). h.run) r ≡ closing n (orders_view rs)
+order_place rs n p r e k at = go r k at ∙ ap (closing_at (orders_view rs)) (sym (last_seen rs n (Some p) e))
+  where
+    go : (o : Option Held) → is_some o ≡ is_open_at (slice_get (orders_view rs) p) → IfSome o (λ h. h.run ≡ p)
+        → option_map (λ (h : Held). h.run) o ≡ closing_at (orders_view rs) (Some p)
+    go None i a = ap (λ b. cond b (Some p) None) i
+    go (Some h) i a = ap Some a ∙ ap (λ b. cond b (Some p) None) i
+
+pub order_nowhere : (rs : List Run) (n : ℕ) → None ≡ last_of n (numbers rs) → None ≡ closing n (orders_view rs)
+order_nowhere rs n e = ap (closing_at (orders_view rs)) (sym (last_seen rs n None e))
 
 -- ---- an order ends
 

@@ -10,13 +10,23 @@ use Rattle.ciel_look_tasks.specs.Heads.{AreDescribed, named_in, own_desc}
 use Rattle.ciel_look_tasks.specs.Known.{knowns, named_at}
 use Rattle.ciel_look_tasks.specs.Learned.{desc_of}
 use Rattle.ciel_look_tasks.specs.Rows.{AreFiled, Filed, filed, filed_task, places_of}
-use Rattle.ciel_look_tasks.specs.SceneView.{one_of, order_view, picked, row_view}
-use Rattle.ciel_look_tasks.specs.Seen.{Order, first_orders, is_of, orders_of, row_desc, row_orders, row_task}
+use Rattle.ciel_look_tasks.specs.SceneView.{end_view, how_view, one_of, order_view, picked, row_view}
+use Rattle.ciel_look_tasks.specs.Seen.{Order, ending_of, first_orders, is_of, orders_of, row_desc, row_orders, row_task}
 use Rattle.ciel_look_tasks.specs.Tasks.{Start, same_task}
-use Rattle.ciel_look_tasks.specs.View.{headings, rows, starts_view}
+use Rattle.ciel_look_tasks.specs.View.{ending_view, headings, how_ending, rows, starts_view}
+use Rattle.ciel_look_tasks.specs.declared.scene.End.{End}
+use Rattle.ciel_look_tasks.specs.declared.scene.How.{How}
 use Rattle.ciel_look_tasks.specs.declared.scene.Run.{Run}
 use Rattle.ciel_look_tasks.specs.declared.scene.Scene.{Scene}
 use Rattle.ciel_look_tasks.specs.declared.scene.Task.{Task}
+
+pub ending_seen : (e : Option End) → ending_of (end_view e) ≡ ending_view e
+ending_seen None = refl
+ending_seen (Some e) = go e.how
+  where
+    go : (h : How) → ending_of (how_view h) ≡ how_ending h
+    go (How.Told outcome made) = refl
+    go (How.Lost loss) = refl
 
 get_mid : (front back : List Run) (r : Run) → slice_get (front ++ r ∷ back) (length front) ≡ Some r
 get_mid [] back r = refl

@@ -20,6 +20,11 @@ known_as n (k ∷ ks) = cond (same_text n k.0) (Some k.1) (known_as n ks)
 abbrev pub with_known : List Named → Named → List Named
 with_known ks k = cond (is_some (known_as k.0 ks)) ks (ks ++ k ∷ [])
 
+-- the task that makes what a name names
+abbrev pub maker_as : List ℕ → List (List ℕ × TaskId) → Option TaskId
+maker_as n [] = None
+maker_as n (m ∷ ms) = cond (same_text n m.0) (Some m.1) (maker_as n ms)
+
 -- ---- of the code's
 
 abbrev pub known_view : Known → Named
@@ -27,6 +32,13 @@ known_view k = (k.name, desc_view k.desc)
 
 abbrev pub knowns : List Known → List Named
 knowns ks = map known_view ks
+
+-- a name, and the task that makes what it names
+abbrev pub maker_view : Known → List ℕ × TaskId
+maker_view k = (k.name, k.task)
+
+abbrev pub makers : List Known → List (List ℕ × TaskId)
+makers ks = map maker_view ks
 
 -- the tasks of these names
 abbrev pub named_ids : List Known → List TaskId

@@ -1,12 +1,15 @@
 -- What is known of a run's descriptions, by what is told of it.
-use Rattle.std.specs.Prelude.{ℕ, List, [], ◌∷◌, ◌++◌, Bool, Option, None, cond, flat_map, map}
+use Rattle.std.specs.Prelude.{◌≡◌, ℕ, List, [], ◌∷◌, ◌++◌, Bool, Option, None, cond, flat_map, map}
+use Rattle.sky_base.specs.Name.{canon}
 use Rattle.sky_base.specs.Val.{Desc, call, input, no_pairs, no_vals}
 use Rattle.sky_base.specs.declared.object.TaskId.{TaskId}
+use Rattle.ciel_name.specs.Names.{first_output}
 use Rattle.ciel_look_told.specs.Head.{Head, short}
 use Rattle.ciel_look_told.specs.Told as told
 use Rattle.ciel_look_told.specs.Told.{Told}
-use Rattle.ciel_look_words.specs.Named.{name_of}
-use Rattle.ciel_look_tasks.specs.Known.{Named, known_as, with_known}
+use Rattle.ciel_look_words.specs.Named.{digest_of, name_of}
+use Rattle.ciel_look_words.specs.declared.known.Known.{Known}
+use Rattle.ciel_look_tasks.specs.Known.{Named, known_as, knowns, makers, with_known}
 use Rattle.ciel_look_tasks.specs.Tasks.{same_task}
 
 -- an input, by its key
@@ -39,6 +42,18 @@ learned short ks (d ∷ ds) = learned short (with_known ks (with_name short d)) 
 -- what is known under names
 abbrev pub known : Head → List Told → List Named
 known h ts = learned (short h) [] (descs h ts)
+
+-- the task that makes what a description stands for
+abbrev pub maker : Bool → Desc (List ℕ) → TaskId
+maker short d = TaskId.Of (digest_of short (canon (first_output d)))
+
+-- a name, and the task that makes what it names
+abbrev pub made_by : Bool → Named → List ℕ × TaskId
+made_by short k = (k.0, maker short k.1)
+
+-- the code's have such tasks
+abbrev pub AreMade : Bool → List Known → Type 0
+AreMade short ks = makers ks ≡ map (made_by short) (knowns ks)
 
 -- ---- of tasks
 

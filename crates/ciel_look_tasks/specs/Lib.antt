@@ -1,7 +1,12 @@
+pub mod Again
+pub mod CutPlaces
+pub mod Cuts
+pub mod Happened
 pub mod Heads
 pub mod Known
 pub mod Learned
 pub mod Orders
+pub mod Origins
 pub mod Rows
 pub mod SceneView
 pub mod Seen

@@ -3,9 +3,9 @@ use Rattle.std.specs.Prelude.{ℕ, ◌-◌, List, [], ◌∷◌, flat_map, lengt
 use Rattle.ciel_look_told.specs.View.{outcome_view}
 use Rattle.ciel_look_told.specs.declared.told.Outcome.{Outcome}
 use Rattle.ciel_look_tasks.specs.Heads.{own_desc}
-use Rattle.ciel_look_tasks.specs.Known.{knowns, named_at}
+use Rattle.ciel_look_tasks.specs.Known.{knowns, makers, named_at}
 use Rattle.ciel_look_tasks.specs.Seen.{Close, Order, Row, Seen, Taken, lost, out, told}
-use Rattle.ciel_look_tasks.specs.View.{loss_view, run_number, start_view}
+use Rattle.ciel_look_tasks.specs.View.{happened_view, ids, loss_view, run_number, start_view}
 use Rattle.ciel_look_tasks.specs.declared.scene.End.{End}
 use Rattle.ciel_look_tasks.specs.declared.scene.How.{How}
 use Rattle.ciel_look_tasks.specs.declared.scene.Loss.{Loss}
@@ -29,8 +29,21 @@ abbrev pub end_view : Option End → Close
 end_view None = out
 end_view (Some end) = how_view end.how
 
+-- the objects that an order took along, and those that it made
+abbrev pub took_at : Option End → List (List ℕ)
+took_at None = []
+took_at (Some end) = end.took.items
+
+abbrev pub made_how : How → List (List ℕ)
+made_how (How.Told outcome made) = made.items
+made_how (How.Lost loss) = []
+
+abbrev pub made_at : Option End → List (List ℕ)
+made_at None = []
+made_at (Some end) = made_how end.how
+
 abbrev pub order_view : Run → Order
-order_view r = record { start = start_view r; again = r.again; close = end_view r.end }
+order_view r = record { start = start_view r; again = r.again; close = end_view r.end; took = took_at r.end; made = made_at r.end }
 
 -- one, or none
 abbrev pub one_of : {A : Type 0} → Option A → List A
@@ -56,15 +69,19 @@ taken_view s l =
       loss = loss_view l;
       objects = l.objects.items;
       stacks = length l.stacks.items;
+      stacked = ids (picked s.roll.tasks.items l.stacks.items);
       cut = map run_number (picked s.runs.items l.runs.items);
+      cut_starts = map start_view (picked s.runs.items l.runs.items);
     }
 
 abbrev pub scene_view : Scene → Seen
 scene_view s =
     record {
       known = knowns s.known.all.items;
+      makers = makers s.known.all.items;
       rows = map (row_view s) s.roll.tasks.items;
       orders = map order_view s.runs.items;
       losses = map (taken_view s) s.losses.items;
       copies = length s.copies.items;
+      happened = happened_view s.happened.items;
     }

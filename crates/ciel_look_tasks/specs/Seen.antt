@@ -3,8 +3,12 @@ use Rattle.std.specs.Prelude.{◌≡◌, ℕ, ◌-◌, List, Bool, Option, lengt
 use Rattle.std.specs.List.{filter}
 use Rattle.sky_base.specs.Val.{Desc}
 use Rattle.sky_base.specs.declared.object.TaskId.{TaskId}
-use Rattle.ciel_look_told.specs.Head.{Head}
+use Rattle.ciel_look_told.specs.Head.{Head, short}
 use Rattle.ciel_look_told.specs.Told.{Outcome, Told}
+use Rattle.ciel_look_tasks.specs.Again.{agains}
+use Rattle.ciel_look_tasks.specs.Cuts.{cuts}
+use Rattle.ciel_look_tasks.specs.Happened as what
+use Rattle.ciel_look_tasks.specs.Happened.{Happened}
 use Rattle.ciel_look_tasks.specs.Known.{Named}
 use Rattle.ciel_look_tasks.specs.Learned as names
 use Rattle.ciel_look_tasks.specs.Orders as by
@@ -18,11 +22,13 @@ pub data Close : Type 0 where
   lost : Close
   told : Outcome → (waits : List (List ℕ)) → Close
 
--- an order: its start, whether its task had been started from the same wait before, and how it ended
+-- an order: its start, whether its task had been started from the same wait before, how it ended, and the objects that it took along and made
 pub record Order : Type 0 where
   pub start : Start
   pub again : Bool
   pub close : Close
+  pub took : List (List ℕ)
+  pub made : List (List ℕ)
 
 -- a task, the description that was known under its name when it was first started, its first eight orders, and how many others it had
 pub record Row : Type 0 where
@@ -32,26 +38,34 @@ pub record Row : Type 0 where
   pub others : ℕ
 
 -- a loss: its worker and how many started tasks had been closed, the names of the objects that lay nowhere else, how many stacks lay there, and
--- the numbers of the orders that were out there
+-- of which tasks, and the numbers of the orders that were out there, and their starts
 pub record Taken : Type 0 where
   pub loss : ℕ × ℕ
   pub objects : List (List ℕ)
   pub stacks : ℕ
+  pub stacked : List TaskId
   pub cut : List ℕ
+  pub cut_starts : List Start
 
--- a run: what is known under names, its tasks, its orders, its losses, and how many objects were copied
+-- a run: what is known under names, and the tasks that make it, its tasks, its orders, its losses, how many objects were copied, and what
+-- happened, in order
 pub record Seen : Type 0 where
   pub known : List Named
+  pub makers : List (List ℕ × TaskId)
   pub rows : List Row
   pub orders : List Order
   pub losses : List Taken
   pub copies : ℕ
+  pub happened : List Happened
 
 abbrev pub row_task : Row → TaskId
 row_task r = r.task
 
 abbrev pub order_start : Order → Start
 order_start o = o.start
+
+abbrev pub order_again : Order → Bool
+order_again o = o.again
 
 abbrev pub ending_of : Close → Ending
 ending_of out = by.out
@@ -63,6 +77,9 @@ order_ended o = (o.start, ending_of o.close)
 
 abbrev pub taken_loss : Taken → ℕ × ℕ
 taken_loss l = l.loss
+
+abbrev pub taken_cut : Taken → List ℕ
+taken_cut l = l.cut
 
 -- the orders of a task
 abbrev pub is_of : TaskId → Order → Bool
@@ -82,12 +99,17 @@ abbrev pub row_orders : Row → List Order × ℕ
 row_orders r = (r.orders, r.others)
 
 -- what is seen is what was told, as far as it is said here: the tasks, each with what was known of it when it was
--- first started and with its orders, the starts, how each order ended, the losses, and what is known
+-- first started and with its orders, the starts, which of them began a task again, how each order ended, the losses, each with the orders
+-- that it cut, what is known, with the tasks that make it, and what happened, in order
 pub record IsSeenOf (head : Head) (ts : List Told) (s : Seen) : Type 0 where
   pub tasks : map row_task s.rows ≡ runs.tasks ts
   pub descs : map row_desc s.rows ≡ map (names.desc_of head ts) (map row_task s.rows)
   pub rows : map row_orders s.rows ≡ map (first_orders s.orders) (map row_task s.rows)
   pub starts : map order_start s.orders ≡ runs.starts ts
+  pub again : map order_again s.orders ≡ agains ts
   pub orders : map order_ended s.orders ≡ by.orders ts
   pub losses : map taken_loss s.losses ≡ runs.losses ts
+  pub cuts : map taken_cut s.losses ≡ cuts ts
   pub known : s.known ≡ names.known head ts
+  pub makers : s.makers ≡ map (names.made_by (short head)) s.known
+  pub happened : s.happened ≡ what.happened ts

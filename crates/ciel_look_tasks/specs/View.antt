@@ -1,12 +1,15 @@
 -- What the code's scenes stand for.
-use Rattle.std.specs.Prelude.{ℕ, List, map, Option, Some, None}
+use Rattle.std.specs.Prelude.{ℕ, List, Bool, map, Option, Some, None}
 use Rattle.sky_base.specs.declared.object.TaskId.{TaskId}
 use Rattle.ciel_look_told.specs.View.{outcome_view}
 use Rattle.ciel_look_tasks.specs.Orders.{Ending, ended, lost, out}
+use Rattle.ciel_look_tasks.specs.Happened as what
+use Rattle.ciel_look_tasks.specs.Happened.{Happened, began}
 use Rattle.ciel_look_tasks.specs.Heads.{Heading}
 use Rattle.ciel_look_tasks.specs.Rows.{Filed}
 use Rattle.ciel_look_tasks.specs.Tasks.{Start}
 use Rattle.ciel_look_tasks.specs.declared.scene.End.{End}
+use Rattle.ciel_look_tasks.specs.declared.scene.Happening.{Happening}
 use Rattle.ciel_look_tasks.specs.declared.scene.How.{How}
 use Rattle.ciel_look_tasks.specs.declared.scene.Loss.{Loss}
 use Rattle.ciel_look_tasks.specs.declared.scene.Run.{Run}
@@ -36,6 +39,22 @@ start_view r = (r.number, (r.worker, (r.from, r.id)))
 
 abbrev pub starts_view : List Run → List Start
 starts_view rs = map start_view rs
+
+-- whether each began its task again
+abbrev pub run_again : Run → Bool
+run_again r = r.again
+
+abbrev pub agains_view : List Run → List Bool
+agains_view rs = map run_again rs
+
+-- what happened
+abbrev pub happening_view : Happening → Happened
+happening_view (Happening.Begun place) = began place
+happening_view (Happening.Ended place) = what.ended place
+happening_view (Happening.Lost place) = what.lost place
+
+abbrev pub happened_view : List Happening → List Happened
+happened_view hs = map happening_view hs
 
 -- the losses
 abbrev pub loss_view : Loss → ℕ × ℕ

@@ -6,7 +6,7 @@ ghost use Rattle.ciel_look_told.specs.Head as head;
 ghost use Rattle.ciel_look_told.specs.View.{head_view};
 ghost use Rattle.ciel_look_tasks.specs.Heads.{task_place};
 ghost use Rattle.ciel_look_tasks.specs.Known.{knowns, with_known};
-ghost use Rattle.ciel_look_tasks.specs.Learned.{given, learned, with_name};
+ghost use Rattle.ciel_look_tasks.specs.Learned.{AreMade, given, learned, with_name};
 
 use crate::register::Register;
 use ciel_look_told::header::Header;
@@ -38,6 +38,7 @@ impl Book {
     pub fn new(alloc: Global, header: &Header) -> Result<Book, Memory>
         ensures short { IfOk result (λ b. b.short ≡ head.short (head_view header.now)) }
         ensures known { IfOk result (λ b. knowns b.known.all.items ≡ learned (head.short (head_view header.now)) [] (given (head_view header.now))) }
+        ensures made { IfOk result (λ b. AreMade (head.short (head_view header.now)) b.known.all.items) }
     {
         let mut book = Book {
             short: header.job.short,
@@ -62,6 +63,7 @@ impl Book {
         ensures short { self.new.short ≡ self.old.short }
         ensures known { IfOk result (λ _. knowns self.new.known.all.items
             ≡ learned self.old.short (knowns self.old.known.all.items) (map desc_view spawned.items)) }
+        ensures made { IfOk result (λ _. AreMade self.old.short self.old.known.all.items → AreMade self.old.short self.new.known.all.items) }
     {
         for desc in spawned {
             self.learn(alloc, desc)?;
@@ -74,6 +76,7 @@ impl Book {
         ensures short { self.new.short ≡ self.old.short }
         ensures known { IfOk result (λ _. knowns self.new.known.all.items
             ≡ with_known (knowns self.old.known.all.items) (with_name self.old.short (desc_view desc))) }
+        ensures made { IfOk result (λ _. AreMade self.old.short self.old.known.all.items → AreMade self.old.short self.new.known.all.items) }
     {
         let one = named(alloc, self.short, desc)?;
         note_output(&mut self.outputs, &one)?;

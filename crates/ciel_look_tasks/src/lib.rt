@@ -3,6 +3,7 @@
 
 pub mod book;
 pub mod make;
+pub mod origins;
 mod places;
 pub mod register;
 pub mod roll;

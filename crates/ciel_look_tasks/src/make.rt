@@ -1,18 +1,25 @@
 //! The scene of a story, made entry by entry.
 
-ghost use Rattle.std.specs.Prelude.{◌≡◌, [], ◌∷◌, ◌++◌, IfOk, map};
+ghost use Rattle.std.specs.Prelude.{◌≡◌, [], ◌∷◌, ◌++◌, IfOk, length, map};
 ghost use Rattle.sky_base.specs.ObjectView.{desc_view};
 ghost use Rattle.ciel_look_told.specs.Head as head;
 ghost use Rattle.ciel_look_told.specs.View.{head_view, outcome_view, told_view};
+ghost use Rattle.ciel_look_tasks.specs.Again.{TellsOrigins, again_by, agains};
+ghost use Rattle.ciel_look_tasks.specs.CutPlaces.{AreKept, cut_by, cuts_view};
+ghost use Rattle.ciel_look_tasks.specs.Cuts.{cuts, out_numbers};
+ghost use Rattle.ciel_look_tasks.specs.Happened.{began, closing, happened, happened_by, if_ended, lost};
 ghost use Rattle.ciel_look_tasks.specs.Heads.{AreDescribed, task_place, with_begun, with_heading};
-ghost use Rattle.ciel_look_tasks.specs.Known.{knowns};
-ghost use Rattle.ciel_look_tasks.specs.Learned.{given, known, learned, spawned};
+ghost use Rattle.ciel_look_tasks.specs.Known.{knowns, makers};
+ghost use Rattle.ciel_look_tasks.specs.Learned.{AreMade, given, known, learned, spawned};
 ghost use Rattle.ciel_look_tasks.specs.Orders.{after_told, closed, cut, ended, is_wait, orders, out};
+ghost use Rattle.ciel_look_tasks.specs.Origins.{has_origin};
 ghost use Rattle.ciel_look_tasks.specs.Rows.{AreFiled};
 ghost use Rattle.ciel_look_tasks.specs.Tasks.{begun, loss_of, losses, start_of, starts, tasks, with_task, with_tasks};
-ghost use Rattle.ciel_look_tasks.specs.View.{ending_view, headings, ids, losses_view, orders_view, rows, starts_view};
+ghost use Rattle.ciel_look_tasks.specs.View.{agains_view, ending_view, happened_view, headings, ids, losses_view, numbers, orders_view};
+ghost use Rattle.ciel_look_tasks.specs.View.{rows, starts_view};
 
 use crate::book::Book;
+use crate::origins::Origins;
 use crate::places::{Place, Places, push, put_all};
 use crate::roll::Roll;
 use crate::scene::{Copied, End, Happening, How, Loss, Run, Scene, Task};
@@ -31,6 +38,7 @@ struct Maker {
     book: Book,
     roll: Roll,
     starts: Starts,
+    origins: Origins,
     places: Places,
     losses: Vec<Loss>,
     copies: Vec<Copied>,
@@ -49,7 +57,11 @@ pub fn scene_of(alloc: Global, story: Story) -> Result<Scene, Memory>
     ensures starts { IfOk result (λ s. starts_view s.runs.items ≡ starts (map told_view story.told.items)) }
     ensures losses { IfOk result (λ s. losses_view s.losses.items ≡ losses (map told_view story.told.items)) }
     ensures orders { IfOk result (λ s. orders_view s.runs.items ≡ orders (map told_view story.told.items)) }
+    ensures agains { IfOk result (λ s. agains_view s.runs.items ≡ agains (map told_view story.told.items)) }
+    ensures cuts { IfOk result (λ s. cuts_view (numbers s.runs.items) s.losses.items ≡ cuts (map told_view story.told.items)) }
     ensures known { IfOk result (λ s. knowns s.known.all.items ≡ known (head_view story.header) (map told_view story.told.items)) }
+    ensures made { IfOk result (λ s. AreMade (head.short (head_view story.header)) s.known.all.items) }
+    ensures happened { IfOk result (λ s. happened_view s.happened.items ≡ happened (map told_view story.told.items)) }
 {
     let Story { header, told } = story;
     let mut maker = Maker::new(alloc, header)?;
@@ -67,9 +79,15 @@ impl Maker {
         ensures headings { IfOk result (λ m. headings m.roll.tasks.items ≡ []) }
         ensures starts { IfOk result (λ m. starts_view m.starts.runs.items ≡ []) }
         ensures orders { IfOk result (λ m. orders_view m.starts.runs.items ≡ []) }
+        ensures agains { IfOk result (λ m. agains_view m.starts.runs.items ≡ []) }
+        ensures origins { IfOk result (λ m. TellsOrigins m.origins (starts_view m.starts.runs.items)) }
         ensures losses { IfOk result (λ m. losses_view m.losses.items ≡ []) }
+        ensures cuts { IfOk result (λ m. cuts_view (numbers m.starts.runs.items) m.losses.items ≡ []) }
+        ensures kept { IfOk result (λ m. AreKept (length m.starts.runs.items) m.losses.items) }
         ensures short { IfOk result (λ m. m.book.short ≡ head.short (head_view header)) }
         ensures known { IfOk result (λ m. knowns m.book.known.all.items ≡ learned (head.short (head_view header)) [] (given (head_view header))) }
+        ensures made { IfOk result (λ m. AreMade (head.short (head_view header)) m.book.known.all.items) }
+        ensures happened { IfOk result (λ m. happened_view m.happened.items ≡ []) }
     {
         let book = Book::new(alloc, &header)?;
         Ok(Maker {
@@ -77,6 +95,7 @@ impl Maker {
             book,
             roll: Roll::new(alloc),
             starts: Starts::new(alloc),
+            origins: Origins::new(alloc),
             places: Places::new(alloc),
             losses: Vec::new(alloc),
             copies: Vec::new(alloc),
@@ -91,14 +110,19 @@ impl Maker {
         ensures headings { headings result.roll.tasks.items ≡ headings self.roll.tasks.items }
         ensures starts { starts_view result.runs.items ≡ starts_view self.starts.runs.items }
         ensures orders { orders_view result.runs.items ≡ orders_view self.starts.runs.items }
+        ensures agains { agains_view result.runs.items ≡ agains_view self.starts.runs.items }
         ensures losses { losses_view result.losses.items ≡ losses_view self.losses.items }
+        ensures cuts { cuts_view (numbers result.runs.items) result.losses.items ≡ cuts_view (numbers self.starts.runs.items) self.losses.items }
         ensures known { knowns result.known.all.items ≡ knowns self.book.known.all.items }
+        ensures makers { makers result.known.all.items ≡ makers self.book.known.all.items }
+        ensures happened { happened_view result.happened.items ≡ happened_view self.happened.items }
     {
         let Maker {
             header,
             book,
             roll,
             starts,
+            origins: _,
             places: _,
             losses,
             copies,
@@ -110,11 +134,7 @@ impl Maker {
             known,
             outputs: _,
         } = book;
-        let Starts {
-            runs,
-            run_of: _,
-            begun: _,
-        } = starts;
+        let Starts { runs, run_of: _ } = starts;
         Scene {
             header,
             known,
@@ -138,10 +158,24 @@ impl Maker {
             ≡ starts_view self.old.starts.runs.items ++ start_of (told_view told)) }
         ensures orders { IfOk result (λ _. orders_view self.new.starts.runs.items
             ≡ after_told (told_view told) (orders_view self.old.starts.runs.items)) }
+        ensures agains { IfOk result (λ _. agains_view self.new.starts.runs.items
+            ≡ agains_view self.old.starts.runs.items ++ again_by self.old.origins (told_view told)) }
+        ensures origins { IfOk result (λ _. TellsOrigins self.old.origins (starts_view self.old.starts.runs.items)
+            → TellsOrigins self.new.origins (starts_view self.new.starts.runs.items)) }
         ensures losses { IfOk result (λ _. losses_view self.new.losses.items ≡ losses_view self.old.losses.items ++ loss_of (told_view told)) }
+        ensures cuts { IfOk result (λ _. AreKept (length self.old.starts.runs.items) self.old.losses.items
+            → cuts_view (numbers self.new.starts.runs.items) self.new.losses.items
+            ≡ cuts_view (numbers self.old.starts.runs.items) self.old.losses.items ++ cut_by (orders_view self.old.starts.runs.items) (told_view told)) }
+        ensures kept { IfOk result (λ _. AreKept (length self.old.starts.runs.items) self.old.losses.items
+            → AreKept (length self.new.starts.runs.items) self.new.losses.items) }
         ensures short { self.new.book.short ≡ self.old.book.short }
         ensures known { IfOk result (λ _. knowns self.new.book.known.all.items
             ≡ learned self.old.book.short (knowns self.old.book.known.all.items) (spawned (told_view told))) }
+        ensures made { IfOk result (λ _. AreMade self.old.book.short self.old.book.known.all.items
+            → AreMade self.old.book.short self.new.book.known.all.items) }
+        ensures happened { IfOk result (λ _. happened_view self.new.happened.items
+            ≡ happened_view self.old.happened.items ++ happened_by (length (starts_view self.old.starts.runs.items)) (orders_view self.old.starts.runs.items)
+            (length (losses_view self.old.losses.items)) (told_view told)) }
     {
         match told {
             Told::Start {
@@ -186,13 +220,28 @@ impl Maker {
             ≡ starts_view self.old.starts.runs.items ++ (number, (worker, (from, id.now))) ∷ []) }
         ensures orders { IfOk result (λ _. orders_view self.new.starts.runs.items
             ≡ orders_view self.old.starts.runs.items ++ ((number, (worker, (from, id.now))), out) ∷ []) }
-        ensures losses { IfOk result (λ _. losses_view self.new.losses.items ≡ losses_view self.old.losses.items) }
+        ensures agains { IfOk result (λ _. agains_view self.new.starts.runs.items
+            ≡ agains_view self.old.starts.runs.items ++ has_origin self.old.origins id.now from ∷ []) }
+        ensures origins { IfOk result (λ _. TellsOrigins self.old.origins (starts_view self.old.starts.runs.items)
+            → TellsOrigins self.new.origins (starts_view self.new.starts.runs.items)) }
+        ensures losses { self.new.losses ≡ self.old.losses }
         ensures book { self.new.book ≡ self.old.book }
+        ensures happened { IfOk result (λ _. happened_view self.new.happened.items
+            ≡ happened_view self.old.happened.items ++ began (length (starts_view self.old.starts.runs.items)) ∷ []) }
     {
         let known = self.book.of_task(id);
         let task = self.roll.enter(alloc, id, known)?;
-        let at = self.happened.len();
-        let run = self.starts.begin(number, worker, from, *id, task, at)?;
+        let again = self.origins.note(id, from)?;
+        let run = self.starts.begin(Run {
+            number,
+            worker,
+            from,
+            id: *id,
+            task,
+            begun: self.happened.len(),
+            again,
+            end: None,
+        })?;
         self.roll.note(task, run)?;
         push(&mut self.happened, Happening::Begun(run))?;
         Ok(())
@@ -206,10 +255,16 @@ impl Maker {
         ensures starts { IfOk result (λ _. starts_view self.new.starts.runs.items ≡ starts_view self.old.starts.runs.items) }
         ensures orders { IfOk result (λ _. orders_view self.new.starts.runs.items
             ≡ closed ended.number (outcome_view ended.how) (orders_view self.old.starts.runs.items)) }
-        ensures losses { IfOk result (λ _. losses_view self.new.losses.items ≡ losses_view self.old.losses.items) }
+        ensures agains { IfOk result (λ _. agains_view self.new.starts.runs.items ≡ agains_view self.old.starts.runs.items) }
+        ensures origins { self.new.origins ≡ self.old.origins }
+        ensures losses { self.new.losses ≡ self.old.losses }
         ensures short { self.new.book.short ≡ self.old.book.short }
         ensures known { IfOk result (λ _. knowns self.new.book.known.all.items
             ≡ learned self.old.book.short (knowns self.old.book.known.all.items) (map desc_view ended.spawned.items)) }
+        ensures made { IfOk result (λ _. AreMade self.old.book.short self.old.book.known.all.items
+            → AreMade self.old.book.short self.new.book.known.all.items) }
+        ensures happened { IfOk result (λ _. happened_view self.new.happened.items
+            ≡ happened_view self.old.happened.items ++ if_ended (closing ended.number (orders_view self.old.starts.runs.items))) }
     {
         let Ended {
             number,
@@ -240,6 +295,7 @@ impl Maker {
             End {
                 at,
                 how: How::Told { outcome: how, made },
+                took: copied,
             },
         );
         push(&mut self.happened, Happening::Ended(held.run))?;
@@ -253,8 +309,16 @@ impl Maker {
         ensures headings { IfOk result (λ _. headings self.new.roll.tasks.items ≡ headings self.old.roll.tasks.items) }
         ensures starts { IfOk result (λ _. starts_view self.new.starts.runs.items ≡ starts_view self.old.starts.runs.items) }
         ensures orders { IfOk result (λ _. orders_view self.new.starts.runs.items ≡ map (cut worker) (orders_view self.old.starts.runs.items)) }
+        ensures agains { IfOk result (λ _. agains_view self.new.starts.runs.items ≡ agains_view self.old.starts.runs.items) }
+        ensures origins { self.new.origins ≡ self.old.origins }
         ensures losses { IfOk result (λ _. losses_view self.new.losses.items ≡ losses_view self.old.losses.items ++ (worker, after) ∷ []) }
+        ensures cuts { IfOk result (λ _. cuts_view (numbers self.new.starts.runs.items) self.new.losses.items
+            ≡ cuts_view (numbers self.old.starts.runs.items) self.old.losses.items ++ out_numbers worker (orders_view self.old.starts.runs.items) ∷ []) }
+        ensures kept { IfOk result (λ _. AreKept (length self.old.starts.runs.items) self.old.losses.items
+            → AreKept (length self.new.starts.runs.items) self.new.losses.items) }
         ensures book { self.new.book ≡ self.old.book }
+        ensures happened { IfOk result (λ _. happened_view self.new.happened.items
+            ≡ happened_view self.old.happened.items ++ lost (length (losses_view self.old.losses.items)) ∷ []) }
     {
         let at = self.happened.len();
         let loss = self.losses.len();

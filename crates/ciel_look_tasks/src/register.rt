@@ -1,10 +1,11 @@
 //! The descriptions of a run, each with its name.
 
-ghost use Rattle.std.specs.Prelude.{◌≡◌, [], ◌∷◌, ◌++◌, ℕ, List, IfOk, MatchOption, None, Some};
+ghost use Rattle.std.specs.Prelude.{◌≡◌, [], ◌∷◌, ◌++◌, ℕ, Bool, List, IfOk, MatchOption, None, Some};
 ghost use Rattle.std.specs.BTreeMap.{get};
 ghost use Rattle.sky_base.specs.NameOrder.{name_cmp};
 ghost use Rattle.sky_base.specs.ObjectView.{desc_view};
-ghost use Rattle.ciel_look_tasks.specs.Known.{known_as, known_view, knowns, place_of, with_known};
+ghost use Rattle.ciel_look_tasks.specs.Known.{known_as, known_view, knowns, maker_as, makers, place_of, with_known};
+ghost use Rattle.ciel_look_tasks.specs.Learned.{AreMade};
 
 use crate::places::push;
 use ciel_look_words::known::Known;
@@ -25,6 +26,7 @@ impl Register {
     /// Nothing is known.
     pub fn new(alloc: Global) -> Register
         ensures known { knowns result.all.items ≡ [] }
+        ensures made { (b : Bool) → AreMade b result.all.items }
     {
         Register {
             all: Vec::new(alloc),
@@ -43,6 +45,8 @@ impl Register {
     pub fn find(&self, name: &Name) -> Option<&Known>
         ensures found { MatchOption result (known_as name.now (knowns self.now.all.items) ≡ None)
             (λ k. known_as name.now (knowns self.now.all.items) ≡ Some (desc_view k.now.desc)) }
+        ensures maker { MatchOption result (maker_as name.now (makers self.now.all.items) ≡ None)
+            (λ k. maker_as name.now (makers self.now.all.items) ≡ Some k.now.task) }
     {
         match self.place(name) {
             Some(place) => self.all.get(place),
@@ -53,6 +57,7 @@ impl Register {
     /// Learns a description, unless its name is known.
     pub fn learn(&mut self, one: Known) -> Result<(), Memory>
         ensures known { IfOk result (λ _. knowns self.new.all.items ≡ with_known (knowns self.old.all.items) (known_view one)) }
+        ensures made { IfOk result (λ _. (b : Bool) → one.short ≡ b → AreMade b self.old.all.items → AreMade b self.new.all.items) }
     {
         match self.place(&one.name) {
             Some(_) => Ok(()),
@@ -67,6 +72,7 @@ impl Register {
     fn add(&mut self, one: Known) -> Result<(), Memory>
         requires new { place_of one.name self.old.all.items ≡ None }
         ensures known { IfOk result (λ _. knowns self.new.all.items ≡ knowns self.old.all.items ++ known_view one ∷ []) }
+        ensures made { IfOk result (λ _. (b : Bool) → one.short ≡ b → AreMade b self.old.all.items → AreMade b self.new.all.items) }
     {
         let place = self.all.len();
         let name = one.name;

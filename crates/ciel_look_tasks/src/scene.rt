@@ -2,7 +2,9 @@
 
 ghost use Rattle.std.specs.Prelude.{◌≡◌, MatchOption, None, Some};
 ghost use Rattle.sky_base.specs.ObjectView.{desc_view};
-ghost use Rattle.ciel_look_tasks.specs.Known.{known_as, known_view, knowns, named_at};
+ghost use Rattle.sky_base.specs.declared.object.TaskId.{TaskId};
+ghost use Rattle.ciel_look_tasks.specs.Known.{known_as, known_view, knowns, maker_as, makers, named_at};
+ghost use Rattle.ciel_look_tasks.specs.Tasks.{same_task};
 
 use crate::register::Register;
 use crate::roll::Roll;
@@ -21,11 +23,12 @@ pub enum How {
     Lost { loss: usize },
 }
 
-/// The end of an order: its place among all that happened, and how.
+/// The end of an order: its place among all that happened, how, and the names of the objects that it took along.
 #[derive(Drop)]
 pub struct End {
     pub at: usize,
     pub how: How,
+    pub took: Vec<Name>,
 }
 
 /// An order: its number, its worker, the wait from which its task goes on, the task, its place, the place of its start among all that happened,
@@ -97,6 +100,8 @@ impl Scene {
     pub fn find(&self, name: &Name) -> Option<&Known>
         ensures found { MatchOption result (known_as name.now (knowns self.now.known.all.items) ≡ None)
             (λ k. known_as name.now (knowns self.now.known.all.items) ≡ Some (desc_view k.now.desc)) }
+        ensures maker { MatchOption result (maker_as name.now (makers self.now.known.all.items) ≡ None)
+            (λ k. maker_as name.now (makers self.now.known.all.items) ≡ Some k.now.task) }
     {
         self.known.find(name)
     }
@@ -110,5 +115,15 @@ impl Scene {
             Some(place) => self.known.all.get(place),
             None => None,
         }
+    }
+}
+
+/// Whether the name is that of the task.
+pub fn is_own(id: &TaskId, name: &Name) -> bool
+    ensures { result ≡ same_task id.now (TaskId.Of name.now) }
+{
+    match id {
+        TaskId::Show => false,
+        TaskId::Of(own) => own == name,
     }
 }

@@ -3,25 +3,20 @@
 ghost use Rattle.std.specs.Prelude.{◌≡◌, ◌+◌, [], ◌∷◌, ◌++◌, ℕ, List, IfOk, IfSome, MatchOption, None, Some, is_some, length, map};
 ghost use Rattle.std.specs.Prelude.{set, slice_get};
 ghost use Rattle.std.specs.BTreeMap.{get};
+ghost use Rattle.std.specs.Option.{option_map};
 ghost use Rattle.std.specs.Ordering.{nat_cmp};
 ghost use Rattle.ciel_look_told.specs.Told.{Outcome};
+ghost use Rattle.ciel_look_tasks.specs.CutPlaces.{if_out, out_places};
+ghost use Rattle.ciel_look_tasks.specs.Happened.{closing};
 ghost use Rattle.ciel_look_tasks.specs.Orders.{Ending, closed, cut, cut_so_far, ended, is_open_at, is_out, is_out_at, last_of, out};
 ghost use Rattle.ciel_look_tasks.specs.Tasks.{Start};
-ghost use Rattle.ciel_look_tasks.specs.View.{ending_view, how_ending, numbers, order_ends, orders_view, starts_view};
+ghost use Rattle.ciel_look_tasks.specs.View.{agains_view, ending_view, how_ending, numbers, order_ends, orders_view, starts_view};
 
 use crate::places::push;
 use crate::scene::{End, How, Run};
-use sky_base::object::TaskId;
 use sky_base::text::Memory;
 use std::alloc::Global;
-use std::collections::{BTreeMap, BTreeSet};
-
-/// A task and a wait.
-#[derive(Clone, Copy, PartialEq, Eq, PartialOrd, Ord)]
-pub struct Origin {
-    task: usize,
-    wait: u32,
-}
+use std::collections::BTreeMap;
 
 /// An order that is out: its place, its worker, and its task's place.
 #[derive(Clone, Copy)]
@@ -31,12 +26,11 @@ pub struct Held {
     pub task: usize,
 }
 
-/// The orders, the place of the last one of each number, and what was started from where.
+/// The orders, and the place of the last one of each number.
 #[derive(Drop)]
 pub struct Starts {
     pub runs: Vec<Run>,
     pub run_of: BTreeMap<u64, usize>,
-    pub begun: BTreeSet<Origin>,
     ghost last: { (n : ℕ) → get nat_cmp run_of n ≡ last_of n (numbers runs.items) },
 }
 
@@ -45,47 +39,16 @@ impl Starts {
     pub fn new(alloc: Global) -> Starts
         ensures starts { starts_view result.runs.items ≡ [] }
         ensures orders { orders_view result.runs.items ≡ [] }
+        ensures agains { agains_view result.runs.items ≡ [] }
     {
         Starts {
             runs: Vec::new(alloc),
             run_of: BTreeMap::new(alloc),
-            begun: BTreeSet::new(alloc),
         }
     }
 
-    /// The task of this place is started; the place of the order.
-    pub fn begin(
-        &mut self,
-        number: u64,
-        worker: u32,
-        from: u32,
-        id: TaskId,
-        task: usize,
-        at: usize,
-    ) -> Result<usize, Memory>
-        ensures starts { IfOk result (λ _. starts_view self.new.runs.items ≡ starts_view self.old.runs.items ++ (number, (worker, (from, id))) ∷ []) }
-        ensures orders { IfOk result (λ _. orders_view self.new.runs.items
-            ≡ orders_view self.old.runs.items ++ ((number, (worker, (from, id))), out) ∷ []) }
-        ensures place { IfOk result (λ p. p ≡ length (starts_view self.old.runs.items)) }
-    {
-        let Ok(first) = self.begun.insert(Origin { task, wait: from }) else {
-            return Err(Memory);
-        };
-        let place = self.add(Run {
-            number,
-            worker,
-            from,
-            id,
-            task,
-            begun: at,
-            again: !first,
-            end: None,
-        })?;
-        Ok(place)
-    }
-
     /// One order more; its place.
-    fn add(&mut self, run: Run) -> Result<usize, Memory>
+    pub fn begin(&mut self, run: Run) -> Result<usize, Memory>
         ensures added { IfOk result (λ _. self.new.runs.items ≡ self.old.runs.items ++ run ∷ []) }
         ensures place { IfOk result (λ p. p ≡ length (starts_view self.old.runs.items)) }
     {
@@ -113,6 +76,7 @@ impl Starts {
         ensures order { MatchOption result ((how : Outcome) → closed number how (orders_view self.now.runs.items) ≡ orders_view self.now.runs.items)
             (λ h. (s : Start) × (slice_get (orders_view self.now.runs.items) h.run ≡ Some (s, out))
             × ((how : Outcome) → closed number how (orders_view self.now.runs.items) ≡ set (orders_view self.now.runs.items) h.run (s, ended how))) }
+        ensures place { option_map (λ h. h.run) result ≡ closing number (orders_view self.now.runs.items) }
     {
         match self.place(number) {
             Some(place) => self.held(place),
@@ -143,6 +107,7 @@ impl Starts {
     /// The order at a place ended.
     pub fn close(&mut self, run: usize, end: End)
         ensures starts { starts_view self.new.runs.items ≡ starts_view self.old.runs.items }
+        ensures agains { agains_view self.new.runs.items ≡ agains_view self.old.runs.items }
         ensures orders { (s : Start) (e : Ending) → slice_get (orders_view self.old.runs.items) run ≡ Some (s, e)
             → orders_view self.new.runs.items ≡ set (orders_view self.old.runs.items) run (s, how_ending end.how) }
     {
@@ -160,11 +125,13 @@ impl Starts {
         loss: usize,
     ) -> Result<Vec<usize>, Memory>
         ensures starts { starts_view self.new.runs.items ≡ starts_view self.old.runs.items }
+        ensures agains { agains_view self.new.runs.items ≡ agains_view self.old.runs.items }
         ensures orders { IfOk result (λ _. orders_view self.new.runs.items ≡ map (cut worker) (orders_view self.old.runs.items)) }
+        ensures places { IfOk result (λ ps. ps.items ≡ out_places worker 0 (orders_view self.old.runs.items)) }
     {
         let mut runs = Vec::new(alloc);
         for run in 0..self.runs.len() {
-            self.cut_at(&mut runs, run, worker, at, loss)?;
+            self.cut_at(alloc, &mut runs, run, worker, at, loss)?;
         }
         Ok(runs)
     }
@@ -172,6 +139,7 @@ impl Starts {
     /// The order at a place ends with its worker, where it is out there; its place is one more of these.
     fn cut_at(
         &mut self,
+        alloc: Global,
         runs: &mut Vec<usize>,
         run: usize,
         worker: u32,
@@ -179,8 +147,11 @@ impl Starts {
         loss: usize,
     ) -> Result<(), Memory>
         ensures starts { starts_view self.new.runs.items ≡ starts_view self.old.runs.items }
+        ensures agains { agains_view self.new.runs.items ≡ agains_view self.old.runs.items }
         ensures orders { IfOk result (λ _. (os : List (Start × Ending)) → orders_view self.old.runs.items ≡ cut_so_far worker run os
             → orders_view self.new.runs.items ≡ cut_so_far worker (run + 1) os) }
+        ensures places { IfOk result (λ _. (os : List (Start × Ending)) → orders_view self.old.runs.items ≡ cut_so_far worker run os
+            → runs.new.items ≡ runs.old.items ++ if_out worker run (slice_get os run)) }
     {
         if self.is_out_at(run, worker) {
             self.close(
@@ -188,6 +159,7 @@ impl Starts {
                 End {
                     at,
                     how: How::Lost { loss },
+                    took: Vec::new(alloc),
                 },
             );
             push(runs, run)?;

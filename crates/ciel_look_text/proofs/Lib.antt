@@ -4,3 +4,7 @@ pub mod Picking
 pub mod Sums
 pub mod Parts
 pub mod Lines
+pub mod Going
+pub mod Replaying
+pub mod Stepping
+pub mod Telling

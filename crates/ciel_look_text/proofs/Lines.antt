@@ -12,7 +12,7 @@ use Rattle.ciel_look_words.proofs.ManyWords.{dropped, dropped_all}
 use Rattle.ciel_look_text.specs.Text.{ended, lines_of, loss_line, sum_line, task_line, text}
 
 -- a line that is put
-put_ended : (old line new bytes : List ℕ) → line ≡ shown bytes → new ≡ (old ++ line) ++ 10 ∷ [] → new ≡ old ++ ended bytes
+pub put_ended : (old line new bytes : List ℕ) → line ≡ shown bytes → new ≡ (old ++ line) ++ 10 ∷ [] → new ≡ old ++ ended bytes
 put_ended old line new bytes e p = p ∙ append_assoc old line (10 ∷ []) ∙ ap (λ l. old ++ (l ++ 10 ∷ [])) e
 
 module _ {A B : Type 0} (g : A → B) (f : B → List ℕ) (old : List ℕ) (xs : List A) where

@@ -1,5 +1,5 @@
 -- Which task is asked for, by the first digits of its name.
-use Rattle.std.specs.Prelude.{ℕ, List, Bool, ◌&&◌, codes, flat_map, length, nat_eq, nat_lt}
+use Rattle.std.specs.Prelude.{ℕ, List, [], ◌∷◌, Bool, ◌&&◌, Option, Some, None, codes, cond, flat_map, length, nat_eq, nat_lt}
 use Rattle.std.specs.List.{list_any, starts_with}
 use Rattle.std.specs.Str.{bytes_eq}
 use Rattle.hex.specs.Hex.{encode_lower}
@@ -15,6 +15,11 @@ begins_with part text = nat_lt 0 (length part) && starts_with nat_eq text part
 abbrev pub has_digits : List ℕ → TaskId → Bool
 has_digits digits TaskId.Show = bytes_eq digits (codes "show")
 has_digits digits (TaskId.Of name) = begins_with digits (encode_lower name)
+
+-- the first of these tasks that is asked for
+abbrev pub first_asked : List ℕ → List TaskId → Option TaskId
+first_asked digits [] = None
+first_asked digits (t ∷ ts) = cond (has_digits digits t) (Some t) (first_asked digits ts)
 
 abbrev pub any_has : List ℕ → List TaskId → Bool
 any_has digits tasks = list_any (has_digits digits) tasks

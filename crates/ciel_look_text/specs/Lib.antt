@@ -1,5 +1,10 @@
 pub mod Asked
+pub mod Chains
+pub mod Now
+pub mod Replays
 pub mod Runs
 pub mod Says
+pub mod Steps
 pub mod Text
+pub mod Why
 pub mod Words

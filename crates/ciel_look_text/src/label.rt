@@ -2,16 +2,14 @@
 
 ghost use Rattle.std.specs.Prelude.{◌≡◌, ◌-◌, [], ◌++◌, IfOk, codes, cond, decimal, length, map};
 ghost use Rattle.sky_base.specs.ObjectView.{desc_view};
-ghost use Rattle.sky_base.specs.declared.object.TaskId.{TaskId};
 ghost use Rattle.ciel_look_words.specs.Words.{digits, words};
 ghost use Rattle.ciel_look_tasks.specs.Known.{knowns, named_at};
 ghost use Rattle.ciel_look_tasks.specs.Heads.{own_desc};
-ghost use Rattle.ciel_look_tasks.specs.Tasks.{same_task};
 ghost use Rattle.ciel_look_text.specs.Says.{Says};
 ghost use Rattle.ciel_look_text.specs.Words.{and_more, counted, led, named, row, task_name, words_of};
 
 use ciel_look_shown::plain::Plain;
-use ciel_look_tasks::scene::{Scene, Task};
+use ciel_look_tasks::scene::{Scene, Task, is_own};
 use ciel_look_words::words::{digits, words};
 use sky_base::name::Name;
 use sky_base::object::{Desc1, TaskId};
@@ -132,16 +130,6 @@ pub fn say_own(alloc: Global, line: &mut Plain, scene: &Scene, task: &Task) -> R
             Ok(())
         }
         None => Ok(()),
-    }
-}
-
-/// Whether the name is that of the task.
-fn is_own(id: &TaskId, name: &Name) -> bool
-    ensures { result ≡ same_task id.now (TaskId.Of name.now) }
-{
-    match id {
-        TaskId::Show => false,
-        TaskId::Of(own) => own == name,
     }
 }
 

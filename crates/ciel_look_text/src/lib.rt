@@ -5,6 +5,7 @@ mod label;
 mod loss;
 mod order;
 mod replay;
+mod search;
 mod sum;
 mod task;
 pub mod text;

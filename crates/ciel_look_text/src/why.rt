@@ -1,27 +1,34 @@
 //! Why a task was started: the chain of needs from the result to it, at each of its starts.
 
-ghost use Rattle.std.specs.Prelude.{◌≡◌, IfOk, is_some};
-ghost use Rattle.ciel_look_tasks.specs.View.{ids};
-ghost use Rattle.ciel_look_text.specs.Asked.{any_has, begins_with, has_digits};
+ghost use Rattle.std.specs.Prelude.{◌≡◌, [], ◌∷◌, ◌++◌, ℕ, List, IfOk, IfSome, cond, flat_map, is_some, map, slice_get};
+ghost use Rattle.std.specs.List.{list_any};
+ghost use Rattle.std.specs.Option.{option_map};
+ghost use Rattle.ciel_look_shown.specs.Plain.{shown};
+ghost use Rattle.ciel_look_tasks.specs.Known.{maker_as, makers};
+ghost use Rattle.ciel_look_tasks.specs.SceneView.{one_of, order_view, picked, scene_view, taken_view};
+ghost use Rattle.ciel_look_tasks.specs.Seen.{Taken, is_of};
+ghost use Rattle.sky_base.specs.declared.object.TaskId.{TaskId};
+ghost use Rattle.ciel_look_tasks.specs.Tasks.{same_task};
+ghost use Rattle.ciel_look_tasks.specs.View.{ids, loss_view, start_view};
+ghost use Rattle.ciel_look_text.specs.Asked.{any_has, begins_with, first_asked, has_digits};
+ghost use Rattle.ciel_look_text.specs.Now.{after_all};
+ghost use Rattle.ciel_look_text.specs.Replays.{begun_event, event_view, stand_of, taken_event};
+ghost use Rattle.ciel_look_text.specs.Says.{Says as Puts};
+ghost use Rattle.ciel_look_text.specs.Text.{text};
+ghost use Rattle.ciel_look_text.specs.Why.{IsWhy, IsWhyOf, PutsAll, Reason, SaysStart, chain_said, cut_said, cut_start, is_maker};
+ghost use Rattle.ciel_look_text.specs.Why.{loss_lines, takes, took_said, why_start};
 
-use crate::label::{say, say_ends, say_name, say_with};
+use crate::label::{say, say_ends, say_lead, say_name, say_with};
 use crate::order::say_start;
-use crate::replay::{Replay, first_known, push};
+use crate::replay::Replay;
+use crate::search::chain_to;
 use ciel_look_shown::lines::Lines;
 use ciel_look_shown::plain::Plain;
-use ciel_look_tasks::scene::{Happening, Loss, Run, Scene, Task};
+use ciel_look_tasks::scene::{Happening, Loss, Run, Scene, Task, is_own};
 use sky_base::name::Name;
 use sky_base::object::TaskId;
 use sky_base::text::{Memory, Txt};
 use std::alloc::Global;
-use std::collections::BTreeMap;
-
-/// A need: the task that waits, none for the root task, and the name that it waits for.
-#[derive(Clone, Copy)]
-struct Need {
-    task: Option<usize>,
-    name: Name,
-}
 
 /// The lines that say why the task of these first digits was started, none where no task was started that has them; the first such task, where
 /// there are several.
@@ -29,24 +36,25 @@ struct Need {
 /// Answers `Memory` for want of memory.
 pub fn why_of(alloc: Global, scene: &Scene, digits: &Txt) -> Result<Option<Lines>, Memory>
     ensures found { IfOk result (λ found. is_some found ≡ any_has digits.now (ids scene.now.roll.tasks.items)) }
+    ensures why { IfOk result (λ found. IfSome found (λ lines. IsWhyOf digits.now (scene_view scene.now) lines)) }
 {
     match find_task(alloc, scene.roll.tasks.as_slice(), digits)? {
-        Some(task) => {
-            let lines = why_task(alloc, scene, task)?;
+        Some(id) => {
+            let lines = why_task(alloc, scene, &id)?;
             Ok(Some(lines))
         }
         None => Ok(None),
     }
 }
 
-/// The place of the first task that is asked for by these digits.
-fn find_task(alloc: Global, tasks: &[Task], digits: &Txt) -> Result<Option<usize>, Memory>
-    ensures found { IfOk result (λ found. is_some found ≡ any_has digits.now (ids tasks.now)) }
+/// The first task that is asked for by these digits.
+fn find_task(alloc: Global, tasks: &[Task], digits: &Txt) -> Result<Option<TaskId>, Memory>
+    ensures found { IfOk result (λ found. found ≡ first_asked digits.now (ids tasks.now)) }
 {
-    for (place, task) in tasks.iter().enumerate() {
+    for task in tasks {
         let found = is_asked(alloc, &task.id, digits)?;
         if found {
-            return Ok(Some(place));
+            return Ok(Some(task.id));
         }
     }
     Ok(None)
@@ -75,169 +83,202 @@ fn begins_with(part: &[u8], text: &[u8]) -> bool
 }
 
 /// A line for each start of the task, and for each loss that took what it had made.
-fn why_task(alloc: Global, scene: &Scene, task: usize) -> Result<Lines, Memory> {
+fn why_task(alloc: Global, scene: &Scene, id: &TaskId) -> Result<Lines, Memory>
+    ensures why { IfOk result (λ lines. IsWhy (scene_view scene.now) id.now lines) }
+{
     let mut lines = Lines::new(alloc);
     let mut replay = Replay::new(alloc);
-    for one in &scene.happened {
-        match *one {
-            Happening::Begun(place) => if let Some(run) = scene.runs.get(place) {
-                if run.task == task {
-                    let line = start_line(alloc, scene, &replay, run)?;
-                    lines.put(&line)?;
-                }
-            },
-            Happening::Lost(place) => if let Some(loss) = scene.losses.get(place) {
-                put_loss(alloc, &mut lines, scene, loss, task)?;
-            },
-            Happening::Ended(_) => {}
-        }
-        replay.step(alloc, scene, *one)?;
+    for place in 0..scene.happened.len() {
+        tell_at(alloc, &mut lines, scene, &mut replay, place, id)?;
     }
     Ok(lines)
 }
 
-/// A start of the task, with the chain of needs to it.
-fn start_line(alloc: Global, scene: &Scene, replay: &Replay, run: &Run) -> Result<Plain, Memory> {
-    let mut line = Plain::new(alloc);
-    say_start(&mut line, run)?;
-    say(&mut line, ": ")?;
-    let chain = chain_to(alloc, scene, replay, run.task)?;
-    say_chain(alloc, &mut line, scene, run.task, chain.as_slice())?;
-    Ok(line)
+/// A line for what happened at a place, and what stands then.
+fn tell_at(
+    alloc: Global,
+    lines: &mut Lines,
+    scene: &Scene,
+    replay: &mut Replay,
+    place: usize,
+    id: &TaskId,
+) -> Result<(), Memory>
+    ensures lines { IfOk result (λ _. PutsAll (scene_view scene.now) (stand_of scene.now replay.old) id.now
+        (flat_map (event_view scene.now) (one_of (slice_get scene.now.happened.items place))) lines.old lines.new) }
+    ensures stand { IfOk result (λ _. stand_of scene.now replay.new
+        ≡ after_all (flat_map (event_view scene.now) (one_of (slice_get scene.now.happened.items place))) (stand_of scene.now replay.old)) }
+{
+    match scene.happened.get(place) {
+        Some(one) => {
+            put_event(alloc, lines, scene, &*replay, one, id)?;
+            replay.step(alloc, scene, one)?;
+            Ok(())
+        }
+        None => Ok(()),
+    }
 }
 
-/// Puts a chain of needs, which stands there from the task on up to the result.
-fn say_chain(
+/// A line for what happened, where it is a start of the task, or a loss that took what it had made.
+fn put_event(
     alloc: Global,
-    line: &mut Plain,
+    lines: &mut Lines,
     scene: &Scene,
-    task: usize,
-    chain: &[Need],
-) -> Result<(), Memory> {
-    if chain.is_empty() {
-        return say(
-            line,
-            if is_root(scene, task) {
-                "the result itself"
-            } else {
-                "nobody is seen to wait for it"
-            },
-        );
+    replay: &Replay,
+    one: &Happening,
+    id: &TaskId,
+) -> Result<(), Memory>
+    ensures lines { IfOk result (λ _. PutsAll (scene_view scene.now) (stand_of scene.now replay.now) id.now (event_view scene.now one.now)
+        lines.old lines.new) }
+{
+    match *one {
+        Happening::Begun(place) => {
+            put_start_at(alloc, lines, scene, replay, place, id)?;
+            Ok(())
+        }
+        Happening::Ended(_) => Ok(()),
+        Happening::Lost(place) => {
+            put_loss_at(alloc, lines, scene, replay, place, id)?;
+            Ok(())
+        }
     }
-    for (i, need) in chain.iter().rev().enumerate() {
-        say(
-            line,
-            if i == 0 {
-                "show result waits for "
-            } else {
-                ", that waits for "
-            },
-        )?;
-        say_name(alloc, line, scene, &need.name)?;
+}
+
+/// A line for the start at a place, where it is of the task.
+fn put_start_at(
+    alloc: Global,
+    lines: &mut Lines,
+    scene: &Scene,
+    replay: &Replay,
+    place: usize,
+    id: &TaskId,
+) -> Result<(), Memory>
+    ensures lines { IfOk result (λ _. PutsAll (scene_view scene.now) (stand_of scene.now replay.now) id.now
+        (map begun_event (one_of (slice_get scene.now.runs.items place))) lines.old lines.new) }
+{
+    match scene.runs.get(place) {
+        Some(run) => {
+            put_start(alloc, lines, scene, replay, run, id)?;
+            Ok(())
+        }
+        None => Ok(()),
+    }
+}
+
+/// A line for the loss at a place, where it took what the task had made.
+fn put_loss_at(
+    alloc: Global,
+    lines: &mut Lines,
+    scene: &Scene,
+    replay: &Replay,
+    place: usize,
+    id: &TaskId,
+) -> Result<(), Memory>
+    ensures lines { IfOk result (λ _. PutsAll (scene_view scene.now) (stand_of scene.now replay.now) id.now
+        (map (taken_event scene.now) (one_of (slice_get scene.now.losses.items place))) lines.old lines.new) }
+{
+    match scene.losses.get(place) {
+        Some(loss) => {
+            put_loss(alloc, lines, scene, loss, id)?;
+            Ok(())
+        }
+        None => Ok(()),
+    }
+}
+
+/// A line for a start, where it is of the task.
+fn put_start(
+    alloc: Global,
+    lines: &mut Lines,
+    scene: &Scene,
+    replay: &Replay,
+    run: &Run,
+    id: &TaskId,
+) -> Result<(), Memory>
+    ensures line { IfOk result (λ _. (more : List (List ℕ)) × SaysStart (scene_view scene.now) (stand_of scene.now replay.now) id.now
+        (order_view run.now) (is_of id.now (order_view run.now)) more × (lines.new ≡ lines.old ++ text more)) }
+{
+    if is_same(id, &run.id) {
+        let line = start_line(alloc, scene, replay, run, id)?;
+        lines.put(&line)?;
+        return Ok(());
     }
     Ok(())
 }
 
-fn is_root(scene: &Scene, task: usize) -> bool {
-    match scene.roll.tasks.get(task) {
-        Some(held) => matches!(held.id, TaskId::Show),
-        None => false,
-    }
-}
-
-/// The needs from the task up to the root task: the last one first.
-fn chain_to(
+/// A start of the task, with the chain of needs to it.
+fn start_line(
     alloc: Global,
     scene: &Scene,
     replay: &Replay,
-    task: usize,
-) -> Result<Vec<Need>, Memory> {
-    let parents = search(alloc, scene, replay, task)?;
-    let mut chain = Vec::new(alloc);
-    let mut at = task;
-    for _step in 0..scene.roll.tasks.len() {
-        let Some(need) = parents.get(&at) else {
-            return Ok(chain);
-        };
-        push(&mut chain, *need)?;
-        let Some(next) = need.task else {
-            return Ok(chain);
-        };
-        at = next;
-    }
-    Ok(chain)
+    run: &Run,
+    id: &TaskId,
+) -> Result<Plain, Memory>
+    ensures line { IfOk result (λ line. (reason : List ℕ) × Reason (scene_view scene.now) (stand_of scene.now replay.now) id.now reason
+        × (line ≡ shown (why_start (order_view run.now) reason))) }
+{
+    let mut line = Plain::new(alloc);
+    say_start(&mut line, run)?;
+    say(&mut line, ": ")?;
+    say_reason(alloc, &mut line, scene, replay, id)?;
+    Ok(line)
 }
 
-/// The tasks that are reached from the root task: of each the need by which it was reached first, and those in the order in which they were.
-#[derive(Drop)]
-struct Reached {
-    parents: BTreeMap<usize, Need>,
-    queue: Vec<usize>,
-}
-
-/// Of each task that is reached from the root task the need by which it was reached first, up to the task that is looked for.
-fn search(
+/// Puts why a task is started just now.
+fn say_reason(
     alloc: Global,
+    line: &mut Plain,
     scene: &Scene,
     replay: &Replay,
-    task: usize,
-) -> Result<BTreeMap<usize, Need>, Memory> {
-    let mut reached = Reached {
-        parents: BTreeMap::new(alloc),
-        queue: Vec::new(alloc),
-    };
-    let first = root_needs(alloc, scene, replay)?;
-    reach(scene, replay, None, first.as_slice(), &mut reached)?;
-    for i in 0..scene.roll.tasks.len() {
-        let Some(from) = reached.queue.get(i).copied() else {
-            return Ok(reached.parents);
-        };
-        if from == task {
-            return Ok(reached.parents);
+    id: &TaskId,
+) -> Result<(), Memory>
+    ensures said { IfOk result (λ _. (reason : List ℕ) × Reason (scene_view scene.now) (stand_of scene.now replay.now) id.now reason
+        × Puts line.old reason line.new) }
+{
+    match id {
+        TaskId::Show => {
+            say(line, "the result itself")?;
+            Ok(())
         }
-        let names = replay.needs(alloc, scene, from)?;
-        reach(scene, replay, Some(from), names.as_slice(), &mut reached)?;
-    }
-    Ok(reached.parents)
-}
-
-/// What the root task waits for: the main call, before it has started.
-fn root_needs(alloc: Global, scene: &Scene, replay: &Replay) -> Result<Vec<Name>, Memory> {
-    match scene.roll.place(&TaskId::Show) {
-        Some(place) => replay.needs(alloc, scene, place),
-        None => first_known(alloc, scene),
+        TaskId::Of(name) => {
+            say_need(alloc, line, scene, replay, name)?;
+            Ok(())
+        }
     }
 }
 
-/// What a task waits for and isn't there leads to the tasks that make it.
-fn reach(
+/// Puts the chain of needs from the result to the task of this name, if there is one.
+fn say_need(
+    alloc: Global,
+    line: &mut Plain,
     scene: &Scene,
     replay: &Replay,
-    from: Option<usize>,
-    names: &[Name],
-    reached: &mut Reached,
-) -> Result<(), Memory> {
+    name: &Name,
+) -> Result<(), Memory>
+    ensures said { IfOk result (λ _. (reason : List ℕ) × Reason (scene_view scene.now) (stand_of scene.now replay.now) (TaskId.Of name.now) reason
+        × Puts line.old reason line.new) }
+{
+    let found = chain_to(alloc, scene, replay, name)?;
+    match found {
+        Some(names) => {
+            say_chain(alloc, line, scene, names.as_slice())?;
+            Ok(())
+        }
+        None => {
+            say(line, "nobody is seen to wait for it")?;
+            Ok(())
+        }
+    }
+}
+
+/// Puts a chain of needs.
+fn say_chain(alloc: Global, line: &mut Plain, scene: &Scene, names: &[Name]) -> Result<(), Memory>
+    ensures said { IfOk result (λ _. Puts line.old (chain_said (scene_view scene.now) names.now) line.new) }
+{
+    let mut first = true;
     for name in names {
-        if replay.is_live(scene, name) {
-            continue;
-        }
-        let Some(known) = scene.find(name) else {
-            continue;
-        };
-        let Some(to) = scene.roll.place(&known.task) else {
-            continue;
-        };
-        if reached.parents.contains_key(&to) {
-            continue;
-        }
-        let need = Need {
-            task: from,
-            name: *name,
-        };
-        if reached.parents.insert(to, need).is_err() {
-            return Err(Memory);
-        }
-        push(&mut reached.queue, to)?;
+        say_lead(line, first, "show result waits for ", ", that waits for ")?;
+        say_name(alloc, line, scene, name)?;
+        first = false;
     }
     Ok(())
 }
@@ -248,57 +289,165 @@ fn put_loss(
     lines: &mut Lines,
     scene: &Scene,
     loss: &Loss,
-    task: usize,
-) -> Result<(), Memory> {
-    if let Some(run) = cut_of(scene, loss, task) {
-        let mut line = Plain::new(alloc);
-        say_with(&mut line, "start ", run.number)?;
-        say_with(&mut line, " was cut: worker ", u64::from(loss.worker))?;
-        say(&mut line, " was lost, after ")?;
-        say_ends(&mut line, loss.after)?;
+    id: &TaskId,
+) -> Result<(), Memory>
+    ensures lines { IfOk result (λ _. lines.new ≡ lines.old ++ text (loss_lines (scene_view scene.now) id.now (taken_view scene.now loss.now)
+        (cut_start id.now (taken_view scene.now loss.now).cut_starts))) }
+{
+    match cut_of(scene, loss.runs.as_slice(), id) {
+        Some(run) => {
+            let line = cut_line(alloc, loss, run)?;
+            lines.put(&line)?;
+            Ok(())
+        }
+        None => {
+            put_took(alloc, lines, scene, loss, id)?;
+            Ok(())
+        }
+    }
+}
+
+/// Puts a line where a loss took what the task had made.
+fn put_took(
+    alloc: Global,
+    lines: &mut Lines,
+    scene: &Scene,
+    loss: &Loss,
+    id: &TaskId,
+) -> Result<(), Memory>
+    ensures lines { IfOk result (λ _. lines.new ≡ lines.old ++ text (cond (takes (scene_view scene.now) id.now (taken_view scene.now loss.now))
+        (took_said (taken_view scene.now loss.now) ∷ []) [])) }
+{
+    if takes_of(scene, loss, id) {
+        let line = took_line(alloc, loss)?;
         lines.put(&line)?;
         return Ok(());
-    }
-    if takes_of(scene, loss, task) {
-        let mut line = Plain::new(alloc);
-        say_with(
-            &mut line,
-            "what it had made was lost with worker ",
-            u64::from(loss.worker),
-        )?;
-        say(&mut line, ", after ")?;
-        say_ends(&mut line, loss.after)?;
-        lines.put(&line)?;
     }
     Ok(())
 }
 
-/// The order of the task that the loss cut.
-fn cut_of<'a>(scene: &'a Scene, loss: &Loss, task: usize) -> Option<&'a Run> {
-    for place in &loss.runs {
-        if let Some(run) = scene.runs.get(*place) {
-            if run.task == task {
-                return Some(run);
-            }
+/// A loss cut an order.
+fn cut_line(alloc: Global, loss: &Loss, run: &Run) -> Result<Plain, Memory>
+    ensures line { IfOk result (λ line. (l : Taken) → l.loss ≡ loss_view loss.now → line ≡ shown (cut_said l (start_view run.now))) }
+{
+    let mut line = Plain::new(alloc);
+    say_with(&mut line, "start ", run.number)?;
+    say_with(&mut line, " was cut: worker ", loss.worker as u64)?;
+    say(&mut line, " was lost, after ")?;
+    say_ends(&mut line, loss.after)?;
+    Ok(line)
+}
+
+/// A loss took what a task had made.
+fn took_line(alloc: Global, loss: &Loss) -> Result<Plain, Memory>
+    ensures line { IfOk result (λ line. (l : Taken) → l.loss ≡ loss_view loss.now → line ≡ shown (took_said l)) }
+{
+    let mut line = Plain::new(alloc);
+    say_with(
+        &mut line,
+        "what it had made was lost with worker ",
+        loss.worker as u64,
+    )?;
+    say(&mut line, ", after ")?;
+    say_ends(&mut line, loss.after)?;
+    Ok(line)
+}
+
+/// The first of the orders at these places that is of the task.
+fn cut_of<'a>(scene: &'a Scene, places: &[usize], id: &TaskId) -> Option<&'a Run>
+    ensures cut { option_map (λ r. start_view r.now) result ≡ cut_start id.now (map start_view (picked scene.now.runs.items places.now)) }
+{
+    for place in places {
+        if let Some(run) = of_task(scene, *place, id) {
+            return Some(run);
         }
     }
     None
 }
 
-/// Whether the loss took an object that the task makes, or its stack.
-fn takes_of(scene: &Scene, loss: &Loss, task: usize) -> bool {
-    if loss.stacks.contains(&task) {
-        return true;
-    }
-    let Some(held) = scene.roll.tasks.get(task) else {
-        return false;
-    };
-    for name in &loss.objects {
-        if let Some(known) = scene.find(name) {
-            if known.task == held.id {
-                return true;
+/// The order at a place, where it is of the task.
+fn of_task<'a>(scene: &'a Scene, place: usize, id: &TaskId) -> Option<&'a Run>
+    ensures run { option_map (λ r. start_view r.now) result ≡ cut_start id.now (map start_view (one_of (slice_get scene.now.runs.items place))) }
+{
+    match scene.runs.get(place) {
+        Some(run) => {
+            if is_same(id, &run.id) {
+                return Some(run);
             }
+            None
+        }
+        None => None,
+    }
+}
+
+/// Whether the loss took an object that the task makes, or its stack.
+fn takes_of(scene: &Scene, loss: &Loss, id: &TaskId) -> bool
+    ensures { result ≡ takes (scene_view scene.now) id.now (taken_view scene.now loss.now) }
+{
+    takes_stack(scene, loss.stacks.as_slice(), id)
+        || takes_object(scene, loss.objects.as_slice(), id)
+}
+
+/// Whether the task is one of those at these places.
+fn takes_stack(scene: &Scene, places: &[usize], id: &TaskId) -> bool
+    ensures { result ≡ list_any (same_task id.now) (ids (picked scene.now.roll.tasks.items places.now)) }
+{
+    for place in places {
+        if is_at(scene, *place, id) {
+            return true;
         }
     }
     false
+}
+
+/// Whether the task is the one at a place.
+fn is_at(scene: &Scene, place: usize, id: &TaskId) -> bool
+    ensures { result ≡ list_any (same_task id.now) (ids (one_of (slice_get scene.now.roll.tasks.items place))) }
+{
+    match scene.roll.tasks.get(place) {
+        Some(task) => is_same(id, &task.id),
+        None => false,
+    }
+}
+
+/// Whether the task makes one of these objects.
+fn takes_object(scene: &Scene, names: &[Name], id: &TaskId) -> bool
+    ensures { result ≡ list_any (λ name. is_maker id.now (maker_as name (makers scene.now.known.all.items))) names.now }
+{
+    for name in names {
+        if is_made(scene, name, id) {
+            return true;
+        }
+    }
+    false
+}
+
+/// Whether the task makes an object.
+fn is_made(scene: &Scene, name: &Name, id: &TaskId) -> bool
+    ensures { result ≡ is_maker id.now (maker_as name.now (makers scene.now.known.all.items)) }
+{
+    match scene.find(name) {
+        Some(known) => is_same(&known.task, id),
+        None => false,
+    }
+}
+
+/// Whether they are the same task.
+fn is_same(one: &TaskId, other: &TaskId) -> bool
+    ensures { result ≡ same_task one.now other.now }
+{
+    match other {
+        TaskId::Show => is_root(one),
+        TaskId::Of(name) => is_own(one, name),
+    }
+}
+
+/// Whether a task is the root task.
+fn is_root(id: &TaskId) -> bool
+    ensures { result ≡ same_task id.now TaskId.Show }
+{
+    match id {
+        TaskId::Show => true,
+        TaskId::Of(_) => false,
+    }
 }

@@ -16,7 +16,9 @@ returns-in-Some-clause-ends g c =
 pub returns-in-Some-clause-wrote : goal.returns-in-Some-clause-wrote
 returns-in-Some-clause-wrote g c =
     put_wrote _ _ _ _ (seen.why c.args.digits.now) (IsOf (seen.why c.args.digits.now) (scene_view c.args.scene.now)) c.as_slice.result.now
-    (subst IsLines (sym c.as_slice.ensures.value) c.as_slice.ensures.lines) tt c.put.result c.put.ensures.put
+    (subst IsLines (sym c.as_slice.ensures.value) c.as_slice.ensures.lines)
+    (subst (IsOf (seen.why c.args.digits.now) (scene_view c.args.scene.now)) (sym c.as_slice.ensures.value) (rw c.in-Some.is at c.in-Ok.ensures.why))
+    c.put.result c.put.ensures.put
 
 pub returns-in-None-clause-ends : goal.returns-in-None-clause-ends
 returns-in-None-clause-ends g c =

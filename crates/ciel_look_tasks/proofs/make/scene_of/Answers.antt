@@ -1,8 +1,13 @@
 -- One entry more is told.
-use Rattle.std.proofs.Common.{◌≡◌, ◌++◌, ◌∷◌, [], ap, append_assoc, length, sym, ◌∙◌}
+use Rattle.std.proofs.Common.{◌≡◌, ◌++◌, ◌∷◌, [], ap, append_assoc, length, map, subst, sym, ◌∙◌}
 use Rattle.ciel_look_told.specs.View.{head_view, told_view}
+use Rattle.ciel_look_told.specs.Head.{short}
 use Rattle.ciel_look_tasks.specs.Known.{knowns}
-use Rattle.ciel_look_tasks.specs.Learned.{learned, spawned}
+use Rattle.ciel_look_tasks.specs.Learned.{AreMade, learned, made_by, spawned}
+use Rattle.ciel_look_tasks.specs.View.{starts_view}
+use Rattle.ciel_look_tasks.proofs.AgainSteps.{agains_next}
+use Rattle.ciel_look_tasks.proofs.CutSteps.{cuts_next}
+use Rattle.ciel_look_tasks.proofs.HappenedSteps.{happened_next}
 use Rattle.ciel_look_tasks.proofs.KnownSteps.{known_next}
 use Rattle.ciel_look_tasks.proofs.RollSteps.{all_yielded, heads_next, heads_same, losses_next, rows_same, starts_next, tasks_next}
 use Rattle.ciel_look_tasks.proofs.RunSteps.{orders_next}
@@ -22,7 +27,16 @@ loop-one-preserved c =
       tasks = tasks_next l.yielded c.in-Some.one _ _ l.invariant.tasks c.in_ok-take.ensures.tasks;
       starts = starts_next l.yielded c.in-Some.one _ _ l.invariant.starts c.in_ok-take.ensures.starts;
       orders = orders_next l.yielded c.in-Some.one _ _ l.invariant.orders c.in_ok-take.ensures.orders;
+      agains = agains_next l.maker.origins (starts_view l.maker.starts.runs.items) l.yielded c.in-Some.one _ _ l.invariant.origins
+          l.invariant.starts l.invariant.agains c.in_ok-take.ensures.agains;
+      origins = c.in_ok-take.ensures.origins l.invariant.origins;
+      cuts = cuts_next l.yielded c.in-Some.one _ _ _ l.invariant.orders l.invariant.cuts (c.in_ok-take.ensures.cuts l.invariant.kept);
+      kept = c.in_ok-take.ensures.kept l.invariant.kept;
       losses = losses_next l.yielded c.in-Some.one _ _ l.invariant.losses c.in_ok-take.ensures.losses;
+      made = subst (λ b. AreMade b c.take.new.self.book.known.all.items) l.invariant.short
+          (c.in_ok-take.ensures.made (subst (λ b. AreMade b l.maker.book.known.all.items) (sym l.invariant.short) l.invariant.made));
+      happened = happened_next l.yielded c.in-Some.one _ _ _ _ _ l.invariant.starts l.invariant.orders l.invariant.losses l.invariant.happened
+          c.in_ok-take.ensures.happened;
       short = c.take.ensures.short ∙ l.invariant.short;
       known = known_next (head_view c.args.story.header) l.yielded c.in-Some.one _ _ l.invariant.known more;
     }
@@ -38,3 +52,8 @@ returns-clause-descs c =
     let none : length rest.items ≡ 0 = sym rest.ok.0 ∙ c.in-None.ensures.steps.0 in
     let all = all_yielded l.yielded rest.items c.args.story.told.items none l.invariant.so_far in
     heads_same (head_view c.args.story.header) _ _ _ _ _ _ c.into_scene.ensures.headings c.into_scene.ensures.known all l.invariant.descs
+
+pub returns-clause-made : goal.returns-clause-made
+returns-clause-made c =
+    c.into_scene.ensures.makers ∙ c.loop-one.invariant.made
+    ∙ ap (map (made_by (short (head_view c.args.story.header)))) (sym c.into_scene.ensures.known)

@@ -1,14 +1,18 @@
 -- What was told so far, and what is left of the story.
-use Rattle.std.proofs.Common.{◌≡◌, ◌++◌, map}
+use Rattle.std.proofs.Common.{◌≡◌, ◌++◌, length, map}
 use Rattle.ciel_look_told.specs.Head.{short}
 use Rattle.ciel_look_told.specs.View.{head_view, told_view}
+use Rattle.ciel_look_tasks.specs.Again.{TellsOrigins, agains}
+use Rattle.ciel_look_tasks.specs.CutPlaces.{AreKept, cuts_view}
+use Rattle.ciel_look_tasks.specs.Cuts.{cuts}
+use Rattle.ciel_look_tasks.specs.Happened.{happened}
 use Rattle.ciel_look_tasks.specs.Heads.{AreDescribed}
 use Rattle.ciel_look_tasks.specs.Known.{knowns}
-use Rattle.ciel_look_tasks.specs.Learned.{known}
+use Rattle.ciel_look_tasks.specs.Learned.{AreMade, known}
 use Rattle.ciel_look_tasks.specs.Orders.{orders}
 use Rattle.ciel_look_tasks.specs.Rows.{AreFiled}
 use Rattle.ciel_look_tasks.specs.Tasks.{losses, starts, tasks}
-use Rattle.ciel_look_tasks.specs.View.{headings, ids, losses_view, orders_view, rows, starts_view}
+use Rattle.ciel_look_tasks.specs.View.{agains_view, happened_view, headings, ids, losses_view, numbers, orders_view, rows, starts_view}
 use Rattle.ciel_look_tasks.proofs.make.scene_of.Given as goal
 
 abbrev pub invariant-loop-one : goal.invariant-loop-one
@@ -21,7 +25,13 @@ invariant-loop-one l =
       tasks : ids l.maker.roll.tasks.items ≡ tasks (map told_view l.yielded);
       starts : starts_view l.maker.starts.runs.items ≡ starts (map told_view l.yielded);
       orders : orders_view l.maker.starts.runs.items ≡ orders (map told_view l.yielded);
+      agains : agains_view l.maker.starts.runs.items ≡ agains (map told_view l.yielded);
+      origins : TellsOrigins l.maker.origins (starts_view l.maker.starts.runs.items);
+      cuts : cuts_view (numbers l.maker.starts.runs.items) l.maker.losses.items ≡ cuts (map told_view l.yielded);
+      kept : AreKept (length l.maker.starts.runs.items) l.maker.losses.items;
       losses : losses_view l.maker.losses.items ≡ losses (map told_view l.yielded);
+      made : AreMade (short (head_view l.fn.story.header)) l.maker.book.known.all.items;
       short : l.maker.book.short ≡ short (head_view l.fn.story.header);
+      happened : happened_view l.maker.happened.items ≡ happened (map told_view l.yielded);
       known : knowns l.maker.book.known.all.items ≡ known (head_view l.fn.story.header) (map told_view l.yielded);
     }

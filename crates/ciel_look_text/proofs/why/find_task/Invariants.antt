@@ -1,8 +1,9 @@
--- None of the tasks before this place is the one.
-use Rattle.std.proofs.Common.{◌≡◌, false, take}
+-- None of the tasks so far is the one.
 use Rattle.ciel_look_tasks.specs.View.{ids}
-use Rattle.ciel_look_text.specs.Asked.{any_has}
+use Rattle.ciel_look_text.specs.Asked.{first_asked}
+use Rattle.ciel_look_text.proofs.Going.{Same}
 use Rattle.ciel_look_text.proofs.why.find_task.Given as goal
 
-abbrev pub invariant-loop-place : goal.invariant-loop-place
-invariant-loop-place l = any_has l.digits (ids (take l.place l.tasks)) ≡ false
+abbrev pub invariant-loop-task : goal.invariant-loop-task
+invariant-loop-task l =
+    Same (λ ts. first_asked l.digits (ids ts)) l.tasks l.task-index

@@ -2,7 +2,7 @@
 use Rattle.std.proofs.Common.{◌++◌, ◌∷◌, [], ap, append_assoc, sym, ◌∙◌, subst}
 use Rattle.sky_base.specs.ObjectView.{desc_view}
 use Rattle.ciel_look_tasks.specs.Known.{knowns, with_known}
-use Rattle.ciel_look_tasks.specs.Learned.{with_name}
+use Rattle.ciel_look_tasks.specs.Learned.{AreMade, with_name}
 use Rattle.ciel_look_tasks.proofs.KnownSteps.{learned_next}
 use Rattle.ciel_look_tasks.proofs.book.Book.learn_all.Goals as goal
 
@@ -16,4 +16,6 @@ loop-desc-preserved c =
       known = learned_next c.args.self.now.short (knowns c.args.self.now.known.all.items) (knowns l.self.known.all.items) _ l.yielded c.in-Some.desc
           l.invariant.known
           (c.in_ok-learn.ensures.known ∙ ap (λ b. with_known (knowns l.self.known.all.items) (with_name b (desc_view c.in-Some.desc))) l.invariant.short);
+      made = λ h. subst (λ b. AreMade b c.learn.new.self.known.all.items) l.invariant.short
+          (c.in_ok-learn.ensures.made (subst (λ b. AreMade b l.self.known.all.items) (sym l.invariant.short) (l.invariant.made h)));
     }

@@ -1,8 +1,8 @@
 -- One input more.
-use Rattle.std.proofs.Common.{[], arith, ap, ◌∙◌}
+use Rattle.std.proofs.Common.{[], arith, ap, subst, sym, ◌∙◌}
 use Rattle.sky_base.specs.Val.{call, input, no_pairs, no_vals}
 use Rattle.ciel_look_tasks.specs.Known.{knowns, with_known}
-use Rattle.ciel_look_tasks.specs.Learned.{with_name}
+use Rattle.ciel_look_tasks.specs.Learned.{AreMade, with_name}
 use Rattle.ciel_look_tasks.proofs.KnownSteps.{input_learned}
 use Rattle.ciel_look_tasks.proofs.book.Book.new.Goals as goal
 
@@ -16,4 +16,6 @@ loop-input-preserved c =
           (omega arith) c.input-item.is c.in_ok-key.ensures l.invariant.known
           (c.in_ok-learn-2.ensures.known
           ∙ ap (λ b. with_known (knowns l.book.known.all.items) (with_name b (input c.in_ok-key.key))) l.invariant.short);
+      made = subst (λ b. AreMade b c.learn-in-loop-input.new.self.known.all.items) l.invariant.short
+          (c.in_ok-learn-2.ensures.made (subst (λ b. AreMade b l.book.known.all.items) (sym l.invariant.short) l.invariant.made));
     }

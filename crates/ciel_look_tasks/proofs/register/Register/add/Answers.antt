@@ -1,6 +1,6 @@
 -- The new description has the last place.
 use Rattle.std.proofs.Common.{◌≡◌, length, arith}
-use Rattle.ciel_look_tasks.proofs.KnownSteps.{knowns_push, place_next}
+use Rattle.ciel_look_tasks.proofs.KnownSteps.{knowns_push, made_push, place_next}
 use Rattle.ciel_look_tasks.proofs.register.Register.add.Goals as goal
 
 pub invariant_of-self-in-Ok : goal.invariant_of-self-in-Ok
@@ -13,4 +13,9 @@ invariant_of-self-in-Ok c =
     }
 
 pub returns-in-Ok : goal.returns-in-Ok
-returns-in-Ok c = record { known = knowns_push c.args.self.now.all.items c.push.new.list.items c.args.one c.in_ok-push.ensures.pushed }
+returns-in-Ok c =
+    let t = c.args.self.now in
+    record {
+      known = knowns_push t.all.items c.push.new.list.items c.args.one c.in_ok-push.ensures.pushed;
+      made = λ b e h. made_push b t.all.items c.push.new.list.items c.args.one c.in_ok-push.ensures.pushed e h;
+    }

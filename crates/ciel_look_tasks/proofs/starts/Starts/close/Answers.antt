@@ -2,6 +2,7 @@
 use Rattle.std.proofs.Common.{Some, ap, arith, refl, sym, ◌∙◌}
 use Rattle.ciel_look_tasks.specs.Orders.{last_of}
 use Rattle.ciel_look_tasks.specs.declared.scene.Run.{Run}
+use Rattle.ciel_look_tasks.proofs.AgainSteps.{agains_closed}
 use Rattle.ciel_look_tasks.proofs.RollSteps.{starts_closed}
 use Rattle.ciel_look_tasks.proofs.RunSteps.{numbers_closed, orders_closed}
 use Rattle.ciel_look_tasks.proofs.starts.Starts.close.Goals as goal
@@ -38,6 +39,7 @@ returns-in-Some c =
     } in
     record {
       starts = starts_closed rs.items c.args.run x y refl c.in-Some.ensures.value;
+      agains = agains_closed rs.items c.args.run x y refl c.in-Some.ensures.value;
       orders = λ s e h. orders_closed rs.items c.args.run x y c.args.end s e (omega (arith, c.in-Some.ensures.variant.0 refl, rs.ok.0))
           c.in-Some.ensures.value refl refl h;
     }

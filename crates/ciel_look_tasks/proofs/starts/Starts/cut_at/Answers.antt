@@ -1,6 +1,7 @@
 -- It stays, or ends with its worker.
-use Rattle.std.proofs.Common.{sym, ◌∙◌}
+use Rattle.std.proofs.Common.{append-nil, false, true, sym, ◌∙◌}
 use Rattle.ciel_look_tasks.specs.View.{orders_view}
+use Rattle.ciel_look_tasks.proofs.CutSteps.{put_out}
 use Rattle.ciel_look_tasks.proofs.OrderPlaces.{cut_next, cut_stays}
 use Rattle.ciel_look_tasks.proofs.starts.Starts.cut_at.Goals as goal
 
@@ -12,3 +13,13 @@ returns-then-is_out_at-clause-orders c =
 pub returns-clause-orders : goal.returns-clause-orders
 returns-clause-orders c =
     λ os so. cut_stays c.args.worker os (orders_view c.args.self.now.runs.items) c.args.run so (sym c.is_out_at.ensures ∙ c.if-is_out_at.false)
+
+pub returns-then-is_out_at-clause-places : goal.returns-then-is_out_at-clause-places
+returns-then-is_out_at-clause-places c =
+    λ os so. put_out c.args.worker os (orders_view c.args.self.now.runs.items) c.args.run true c.args.runs.now.items _ so
+    (sym c.is_out_at.ensures ∙ c.if-is_out_at.true) c.in_ok-push.ensures.pushed
+
+pub returns-clause-places : goal.returns-clause-places
+returns-clause-places c =
+    λ os so. put_out c.args.worker os (orders_view c.args.self.now.runs.items) c.args.run false c.args.runs.now.items c.args.runs.now.items so
+    (sym c.is_out_at.ensures ∙ c.if-is_out_at.false) (sym (append-nil c.args.runs.now.items))
