@@ -1,7 +1,7 @@
 -- Bytes that are compared with a key, piece by piece.
-use Rattle.std.proofs.Common.{◌≡◌, ◌<◌, ◌≤◌, ◌+◌, ℕ, List, [], ◌∷◌, ◌++◌, drop, get_or, length, refl, sym, ◌∙◌, ap, ap₂}
+use Rattle.std.proofs.Common.{◌≡◌, ◌<◌, ◌≤◌, ◌+◌, ℕ, List, [], ◌∷◌, ◌++◌, true, false, arith, drop, get_or, length, refl, sym, ◌∙◌, ap, ap₂, true≢false}
 use Rattle.std.proofs.lemmas.List.{drop_all, drop_more}
-use Rattle.std.specs.Ordering.{nat_cmp, ordering_then}
+use Rattle.std.specs.Ordering.{is_ne, nat_cmp, ordering_then}
 use Rattle.std.specs.Cmp.Lexicographic.{slice_cmp}
 use Rattle.std.specs.declared.cmp.Ordering.{Ordering}
 use Rattle.sky_base.specs.Name.{big_endian}
@@ -34,9 +34,9 @@ goes : (b : ℕ) (ks bs : List ℕ) (o : Ordering)
     → order_of (taken (record { rest = ks; found = Ordering.Equal }) bs) ≡ slice_cmp nat_cmp bs ks
     → order_of (taken (after_byte b ks o) bs) ≡ ordering_then o (slice_cmp nat_cmp bs ks)
 unfolding taken
-goes b ks bs Ordering.Less h = stays_less ks bs
+goes b ks bs Ordering.Less h = stays_less [] bs
 goes b ks bs Ordering.Equal h = h
-goes b ks bs Ordering.Greater h = stays_greater ks bs
+goes b ks bs Ordering.Greater h = stays_greater [] bs
 
 pub compares : (key bs : List ℕ) → order_of (taken (record { rest = key; found = Ordering.Equal }) bs) ≡ slice_cmp nat_cmp bs key
 unfolding taken
@@ -44,6 +44,84 @@ compares [] [] = refl
 compares (k ∷ ks) [] = refl
 compares [] (b ∷ bs) = stays_greater [] bs
 compares (k ∷ ks) (b ∷ bs) = goes b ks bs (nat_cmp b k) (compares ks bs)
+
+-- where bytes differed, more of them change nothing
+stays_so : (rest bs : List ℕ) (o : Ordering) → is_ne o ≡ true → taken (record { rest = rest; found = o }) bs ≡ record { rest = rest; found = o }
+unfolding taken
+stays_so rest [] o n = refl
+stays_so rest (b ∷ bs) Ordering.Less n = stays_so rest bs Ordering.Less n
+stays_so rest (b ∷ bs) Ordering.Equal n = absurd (true≢false (sym n))
+stays_so rest (b ∷ bs) Ordering.Greater n = stays_so rest bs Ordering.Greater n
+
+pub stays : (s : AgainstSeen) (bs : List ℕ) → is_ne s.found ≡ true → taken s bs ≡ s
+stays s bs n = stays_so s.rest bs s.found n
+
+-- as many bytes as the front of a key has, by how they compare with it
+abbrev pub settled : Ordering → (rest : List ℕ) → AgainstSeen
+settled Ordering.Less rest = record { rest = []; found = Ordering.Less }
+settled Ordering.Equal rest = record { rest = rest; found = Ordering.Equal }
+settled Ordering.Greater rest = record { rest = []; found = Ordering.Greater }
+
+goes_within : (b : ℕ) (o : Ordering) (bs ks rest : List ℕ) (then : Ordering)
+    → taken (record { rest = ks; found = Ordering.Equal }) bs ≡ settled then rest
+    → taken (after_byte b ks o) bs ≡ settled (ordering_then o then) rest
+goes_within b Ordering.Less bs ks rest then h = stays_so [] bs Ordering.Less refl
+goes_within b Ordering.Equal bs ks rest then h = h
+goes_within b Ordering.Greater bs ks rest then h = stays_so [] bs Ordering.Greater refl
+
+pub taken_within : (bs ks rest : List ℕ) → length bs ≡ length ks
+    → taken (record { rest = ks ++ rest; found = Ordering.Equal }) bs ≡ settled (slice_cmp nat_cmp bs ks) rest
+unfolding taken
+taken_within [] [] rest e = refl
+taken_within [] (k ∷ ks) rest e = absurd (omega (arith, e))
+taken_within (b ∷ bs) [] rest e = absurd (omega (arith, e))
+taken_within (b ∷ bs) (k ∷ ks) rest e = goes_within b (nat_cmp b k) bs (ks ++ rest) rest (slice_cmp nat_cmp bs ks)
+    (taken_within bs ks rest (omega (arith, e)))
+
+-- more bytes than a key has, by how the first so many compare with it
+abbrev pub settled_beyond : Ordering → AgainstSeen
+settled_beyond Ordering.Less = record { rest = []; found = Ordering.Less }
+settled_beyond Ordering.Equal = record { rest = []; found = Ordering.Greater }
+settled_beyond Ordering.Greater = record { rest = []; found = Ordering.Greater }
+
+goes_beyond : (b : ℕ) (o : Ordering) (bs ks : List ℕ) (then : Ordering)
+    → taken (record { rest = ks; found = Ordering.Equal }) bs ≡ settled_beyond then
+    → taken (after_byte b ks o) bs ≡ settled_beyond (ordering_then o then)
+goes_beyond b Ordering.Less bs ks then h = stays_so [] bs Ordering.Less refl
+goes_beyond b Ordering.Equal bs ks then h = h
+goes_beyond b Ordering.Greater bs ks then h = stays_so [] bs Ordering.Greater refl
+
+pub taken_beyond : (bs more ks : List ℕ) → length bs ≡ length ks → 0 < length more
+    → taken (record { rest = ks; found = Ordering.Equal }) (bs ++ more) ≡ settled_beyond (slice_cmp nat_cmp bs ks)
+unfolding taken
+taken_beyond [] [] [] e p = absurd (omega (arith, p))
+taken_beyond [] (m ∷ more) [] e p = stays_so [] more Ordering.Greater refl
+taken_beyond [] more (k ∷ ks) e p = absurd (omega (arith, e))
+taken_beyond (b ∷ bs) more [] e p = absurd (omega (arith, e))
+taken_beyond (b ∷ bs) more (k ∷ ks) e p = goes_beyond b (nat_cmp b k) (bs ++ more) ks (slice_cmp nat_cmp bs ks)
+    (taken_beyond bs more ks (omega (arith, e)) p)
+
+-- ---- what is found
+
+pub within_differs : (o : Ordering) (rest : List ℕ) → is_ne o ≡ true → settled o rest ≡ record { rest = []; found = o }
+within_differs Ordering.Less rest n = refl
+within_differs Ordering.Equal rest n = absurd (true≢false (sym n))
+within_differs Ordering.Greater rest n = refl
+
+pub within_same : (o : Ordering) (rest : List ℕ) → is_ne o ≡ false → settled o rest ≡ record { rest = rest; found = o }
+within_same Ordering.Less rest n = absurd (true≢false n)
+within_same Ordering.Equal rest n = refl
+within_same Ordering.Greater rest n = absurd (true≢false n)
+
+pub beyond_differs : (o : Ordering) → is_ne o ≡ true → settled_beyond o ≡ record { rest = []; found = o }
+beyond_differs Ordering.Less n = refl
+beyond_differs Ordering.Equal n = absurd (true≢false (sym n))
+beyond_differs Ordering.Greater n = refl
+
+pub beyond_same : (o : Ordering) → is_ne o ≡ false → settled_beyond o ≡ record { rest = []; found = Ordering.Greater }
+beyond_same Ordering.Less n = absurd (true≢false n)
+beyond_same Ordering.Equal n = refl
+beyond_same Ordering.Greater n = refl
 
 -- the items of a list are taken one after the other
 pub goes_on : {X : Type 0} (spell : X → List ℕ) (all : List X → List ℕ) → ((x : X) (xs : List X) → all (x ∷ xs) ≡ spell x ++ all xs)

@@ -9,9 +9,9 @@ pub record AgainstSeen : Type 0 where
   pub found : Ordering
 
 abbrev pub after_byte : ℕ → List ℕ → Ordering → AgainstSeen
-after_byte b ks Ordering.Less = record { rest = ks; found = Ordering.Less }
+after_byte b ks Ordering.Less = record { rest = []; found = Ordering.Less }
 after_byte b ks Ordering.Equal = record { rest = ks; found = Ordering.Equal }
-after_byte b ks Ordering.Greater = record { rest = ks; found = Ordering.Greater }
+after_byte b ks Ordering.Greater = record { rest = []; found = Ordering.Greater }
 
 -- one more byte, where all so far stood in front
 abbrev pub one_more : ℕ → List ℕ → AgainstSeen

@@ -1,6 +1,6 @@
 //! A stored key compared with the key of a question, whose bytes come piece by piece, so that they are never put together.
 
-ghost use Rattle.std.specs.Prelude.{◌≡◌, ◌∷◌, ◌++◌, []};
+ghost use Rattle.std.specs.Prelude.{◌≡◌, ◌<◌, ◌≤◌, ◌∷◌, ◌++◌, [], length};
 ghost use Rattle.std.specs.Ordering.{nat_cmp};
 ghost use Rattle.std.specs.Cmp.Lexicographic.{slice_cmp};
 ghost use Rattle.std.specs.declared.cmp.Ordering.{Ordering as order};
@@ -43,29 +43,25 @@ impl<'a> Against<'a> {
     }
 
     /// One more byte.
-    #[tactic(auto, unfolding(crate::specs::Against::taken))]
     fn byte(&mut self, byte: u8)
         ensures { self.new ≡ taken self.old (byte ∷ []) }
+    {
+        self.raw(&[byte]);
+    }
+
+    /// More bytes, all at once.
+    #[tactic(auto, using(crate::proofs::Taking::stays))]
+    fn raw(&mut self, bytes: &[u8])
+        ensures { self.new ≡ taken self.old bytes.now }
     {
         if self.found.is_ne() {
             return;
         }
-        let Some((first, rest)) = self.rest.split_first() else {
-            self.found = Ordering::Greater;
-            return;
+        *self = if bytes.len() <= self.rest.len() {
+            within(self.rest, bytes)
+        } else {
+            beyond(self.rest, bytes)
         };
-        self.found = byte.cmp(first);
-        self.rest = rest;
-    }
-
-    /// More bytes.
-    #[tactic(auto, unfolding(crate::specs::Against::taken))]
-    fn raw(&mut self, bytes: &[u8])
-        ensures { self.new ≡ taken self.old bytes.now }
-    {
-        for byte in bytes {
-            self.byte(*byte);
-        }
     }
 
     /// The low four bytes of a number.
@@ -105,6 +101,35 @@ impl<'a> Against<'a> {
             return Ordering::Equal;
         }
         Ordering::Less
+    }
+}
+
+/// Bytes that come first, compared with a key that has as many or more.
+fn within<'a>(key: &'a [u8], bytes: &[u8]) -> Against<'a>
+    requires { length bytes.now ≤ length key.now }
+    ensures { result ≡ taken (record { rest = key.now; found = order.Equal }) bytes.now }
+{
+    let (head, rest) = key.split_at(bytes.len());
+    let found = bytes.cmp(head);
+    if found.is_ne() {
+        return Against { rest: &[], found };
+    }
+    Against { rest, found }
+}
+
+/// Bytes that come first, compared with a key that has fewer.
+fn beyond<'a>(key: &'a [u8], bytes: &[u8]) -> Against<'a>
+    requires { length key.now < length bytes.now }
+    ensures { result ≡ taken (record { rest = key.now; found = order.Equal }) bytes.now }
+{
+    let (front, _) = bytes.split_at(key.len());
+    let found = front.cmp(key);
+    if found.is_ne() {
+        return Against { rest: &[], found };
+    }
+    Against {
+        rest: &[],
+        found: Ordering::Greater,
     }
 }
 
