@@ -1,5 +1,5 @@
 -- Which starts began a task again, start by start.
-use Rattle.std.proofs.Common.{◌≡◌, ℕ, List, [], ◌∷◌, ◌++◌, Bool, true, false, not, ◌&&◌, ◌||◌, cond, map, get_or, set, append-nil, append_assoc, refl, ap, sym, ◌∙◌, subst}
+use Rattle.std.proofs.Common.{◌≡◌, ℕ, List, [], ◌∷◌, ◌++◌, Bool, true, false, ◌&&◌, ◌||◌, cond, map, get_or, set, append-nil, append_assoc, refl, ap, sym, ◌∙◌, subst}
 use Rattle.std.specs.Prelude.{nat_eq}
 use Rattle.std.specs.List.{list_any}
 use Rattle.std.specs.BTreeMap.{is_at}
@@ -39,7 +39,7 @@ both_eq Ordering.Less b = refl
 both_eq Ordering.Equal b = refl
 both_eq Ordering.Greater b = refl
 
-origin_test : (k n : List ℕ) (v w : ℕ) → is_eq (origin_cmp (k, v) (n, w)) ≡ (same_text n k && nat_eq v w)
+pub origin_test : (k n : List ℕ) (v w : ℕ) → is_eq (origin_cmp (k, v) (n, w)) ≡ (same_text n k && nat_eq v w)
 origin_test k n v w =
     both_eq (name_cmp k n) (nat_cmp v w) ∙ ap (λ b. b && is_eq (nat_cmp v w)) (same_test k n) ∙ ap (λ b. same_text n k && b) (same_number v w)
 

@@ -1,5 +1,5 @@
 -- Which orders losses cut, entry by entry.
-use Rattle.std.proofs.Common.{◌≡◌, ◌≤◌, ◌<◌, ◌+◌, ℕ, zero, suc, List, [], ◌∷◌, ◌++◌, Bool, true, false, cond, flat_map, length, map, take, Option, Some, None, option_map}
+use Rattle.std.proofs.Common.{◌≡◌, ◌≤◌, ◌<◌, ◌+◌, ℕ, zero, suc, List, [], ◌∷◌, ◌++◌, Bool, true, false, cond, length, map, take, Option, Some, None, option_map}
 use Rattle.std.proofs.Common.{append-nil, append_assoc, arith, length-append, slice_get, refl, ap, sym, ◌∙◌, subst}
 use Rattle.std.proofs.lemmas.List.{length-map, map-append}
 use Rattle.std.proofs.lemmas.Option.{slice_get-map}
@@ -26,7 +26,7 @@ get_front [] ys i h = absurd (omega (arith, h))
 get_front (x ∷ xs) ys zero h = refl
 get_front (x ∷ xs) ys (suc i) h = get_front xs ys i (omega (arith, h))
 
-picked_front : {A : Type 0} (xs ys : List A) (ps : List ℕ) → AreBelow (length xs) ps → picked (xs ++ ys) ps ≡ picked xs ps
+pub picked_front : {A : Type 0} (xs ys : List A) (ps : List ℕ) → AreBelow (length xs) ps → picked (xs ++ ys) ps ≡ picked xs ps
 picked_front xs ys [] h = refl
 picked_front xs ys (p ∷ ps) h =
     ap (λ o. one_of o ++ picked (xs ++ ys) ps) (get_front xs ys p h.0) ∙ ap (λ z. one_of (slice_get xs p) ++ z) (picked_front xs ys ps h.1)
@@ -46,7 +46,7 @@ cuts_front ns ms [] h = refl
 cuts_front ns ms (l ∷ ls) h =
     ap (λ c. c ∷ cuts_view (ns ++ ms) ls) (picked_front ns ms l.runs.items h.0) ∙ ap (λ cs. cut_view ns l ∷ cs) (cuts_front ns ms ls h.1)
 
-below_more : (n m : ℕ) (ps : List ℕ) → n ≤ m → AreBelow n ps → AreBelow m ps
+pub below_more : (n m : ℕ) (ps : List ℕ) → n ≤ m → AreBelow n ps → AreBelow m ps
 below_more n m [] l h = tt
 below_more n m (p ∷ ps) l h = (omega (arith, l, h.0), below_more n m ps l h.1)
 

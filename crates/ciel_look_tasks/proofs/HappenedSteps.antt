@@ -1,5 +1,5 @@
 -- What happened, entry by entry.
-use Rattle.std.proofs.Common.{◌≡◌, ℕ, List, [], ◌∷◌, ◌++◌, length, map, Option, Some, None, append-nil, append_assoc, refl, ap, sym, ◌∙◌}
+use Rattle.std.proofs.Common.{◌≡◌, ℕ, List, [], ◌∷◌, ◌++◌, length, map, Some, None, append-nil, append_assoc, ap, sym, ◌∙◌}
 use Rattle.std.proofs.lemmas.List.{length-map, map-append}
 use Rattle.ciel_look_told.specs.Told as told
 use Rattle.ciel_look_told.specs.View.{told_view}

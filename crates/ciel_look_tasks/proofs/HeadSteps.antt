@@ -3,8 +3,6 @@ use Rattle.std.proofs.Common.{◌≡◌, ℕ, suc, List, [], ◌∷◌, ◌++◌
 use Rattle.std.proofs.Common.{append-nil, append_assoc, is_some, refl, ap, sym, ◌∙◌, subst}
 use Rattle.std.specs.List.{list_any}
 use Rattle.std.proofs.lemmas.Grind.{flat_map-append}
-use Rattle.std.proofs.lemmas.List.{map-append}
-use Rattle.std.proofs.lemmas.Simd.{map-map}
 use Rattle.sky_base.specs.ObjectView.{desc_view}
 use Rattle.sky_base.specs.Val.{Desc, same_text}
 use Rattle.sky_base.specs.declared.object.TaskId.{TaskId}
@@ -14,7 +12,7 @@ use Rattle.ciel_look_told.specs.Told.{Told}
 use Rattle.ciel_look_words.specs.declared.known.Known.{Known}
 use Rattle.ciel_look_tasks.specs.Heads.{AreDescribed, Heading, IsDescribed, heading_task, named_in, own_desc, task_place, with_begun, with_heading}
 use Rattle.ciel_look_tasks.specs.Known.{Named, known_as, known_view, knowns, place_of, with_known}
-use Rattle.ciel_look_tasks.specs.Learned.{desc_of, described, given, known, learned, own_known, spawned, with_name}
+use Rattle.ciel_look_tasks.specs.Learned.{described, given, known, learned, own_known, spawned, with_name}
 use Rattle.ciel_look_tasks.specs.Tasks.{begun, same_task, tasks}
 use Rattle.ciel_look_tasks.proofs.KnownSteps.{learned_append}
 use Rattle.ciel_look_tasks.proofs.TaskLists.{any_once, self_task}

@@ -170,7 +170,7 @@ pub learned_next : (s : Bool) (ks ls ms : List Named) (xs : List Desc1) (x : Des
 learned_next s ks ls ms xs x e f =
     learned_push s ks ls ms (map desc_view xs) (desc_view x) e f ∙ ap (learned s ks) (sym (map-append desc_view xs (x ∷ [])))
 
-next_input : (xs : List Input) (i : ℕ) (x : Input) → i < length xs → x ≡ get_or xs i x
+pub next_input : (xs : List Input) (i : ℕ) (x : Input) → i < length xs → x ≡ get_or xs i x
     → map input_desc (map input_view (take (i + 1) xs)) ≡ map input_desc (map input_view (take i xs)) ++ input_desc (input_view x) ∷ []
 next_input [] i x h e = absurd (omega (arith, h))
 next_input (y ∷ xs) zero x h e = ap (λ z. input_desc (input_view z) ∷ []) (sym e)

@@ -3,10 +3,14 @@ pub mod CutSteps
 pub mod HappenedSteps
 pub mod HeadSteps
 pub mod KnownSteps
+pub mod ObjectSteps
 pub mod OrderPlaces
 pub mod OrderSteps
+pub mod OutputSteps
+pub mod ReportSteps
 pub mod RollSteps
 pub mod RowSteps
 pub mod RunSteps
 pub mod SceneRows
+pub mod StackSteps
 pub mod TaskLists

@@ -1,12 +1,9 @@
 -- The orders of a run by their places.
-use Rattle.std.proofs.Common.{◌≡◌, ◌≤◌, ◌<◌, ◌+◌, ℕ, zero, suc, List, [], ◌∷◌, ◌++◌, Bool, true, false, ◌||◌, ◌&&◌, cond, length, map, take, drop, set}
-use Rattle.std.proofs.Common.{Option, Some, None, MatchOption, slice_get, get_or, nat_eq, arith, refl, ap, sym, ◌∙◌, subst}
+use Rattle.std.proofs.Common.{◌≡◌, ◌≤◌, ◌+◌, ℕ, zero, suc, List, [], ◌∷◌, ◌++◌, Bool, true, false, ◌||◌, cond, length, map, take, drop, set}
+use Rattle.std.proofs.Common.{Option, Some, None, slice_get, nat_eq, arith, refl, ap, sym, ◌∙◌}
 use Rattle.std.specs.BTreeMap.{BTreeMap, Updates, get}
-use Rattle.std.specs.List.{list_any}
 use Rattle.std.specs.Ordering.{is_eq, nat_cmp}
-use Rattle.std.proofs.lemmas.Bool.{eqb-true}
 use Rattle.std.proofs.lemmas.Bool.Decides.{nat_tests}
-use Rattle.std.proofs.lemmas.Option.{slice_get-map}
 use Rattle.ciel_look_told.specs.Told.{Outcome}
 use Rattle.ciel_look_tasks.specs.Tasks.{Start}
 use Rattle.ciel_look_tasks.specs.Orders as order
@@ -110,7 +107,7 @@ closed_here n how (x ∷ os) (suc q) o h k =
     ap (λ c. cond c (x ∷ closed n how os) (ends_if (nat_eq n x.0.0) (order.ended how) x ∷ os)) (last_some n os q later)
     ∙ ap (λ ys. x ∷ ys) (closed_here n how os q o later k)
 
-set_same : {A : Type 0} (xs : List A) (p : ℕ) (x : A) → slice_get xs p ≡ Some x → set xs p x ≡ xs
+pub set_same : {A : Type 0} (xs : List A) (p : ℕ) (x : A) → slice_get xs p ≡ Some x → set xs p x ≡ xs
 set_same [] p x h = absurd cc
 set_same (y ∷ xs) zero x h = ap (λ z. z ∷ xs) (sym (the_some y x h))
 set_same (y ∷ xs) (suc p) x h = ap (λ zs. y ∷ zs) (set_same xs p x h)

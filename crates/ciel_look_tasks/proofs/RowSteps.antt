@@ -1,6 +1,6 @@
 -- The tasks with the places of their starts.
-use Rattle.std.proofs.Common.{◌≡◌, ◌+◌, ℕ, zero, suc, List, [], ◌∷◌, ◌++◌, Bool, true, false, ◌||◌, cond, length, map, set, Option, Some, None, option_map}
-use Rattle.std.proofs.Common.{arith, refl, ap, sym, ◌∙◌, subst, append-nil, is_some, not, slice_get}
+use Rattle.std.proofs.Common.{◌≡◌, ◌+◌, ℕ, suc, List, [], ◌∷◌, ◌++◌, Bool, true, false, ◌||◌, cond, length, map, set, Option, Some, None, option_map}
+use Rattle.std.proofs.Common.{arith, refl, ap, sym, ◌∙◌, subst, append-nil, is_some, slice_get}
 use Rattle.std.specs.List.{list_any}
 use Rattle.sky_base.specs.declared.object.TaskId.{TaskId}
 use Rattle.ciel_look_tasks.specs.Tasks.{Start, place_in, same_task}

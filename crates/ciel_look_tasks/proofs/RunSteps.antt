@@ -1,6 +1,6 @@
 -- The orders, as the code keeps them.
 use Rattle.std.proofs.Common.{◌≡◌, ◌<◌, ℕ, List, [], ◌∷◌, ◌++◌, length, map, set, slice_get, get_or, Option, Some, None, option_map}
-use Rattle.std.proofs.Common.{true, false, cond, refl, ap, sym, ◌∙◌, subst, is_some, IfSome, MatchOption}
+use Rattle.std.proofs.Common.{true, false, cond, refl, ap, sym, ◌∙◌, is_some, IfSome, MatchOption}
 use Rattle.std.specs.BTreeMap.{BTreeMap, Updates, get}
 use Rattle.std.specs.Ordering.{nat_cmp}
 use Rattle.std.proofs.Math.Seq.{map-set_same}
@@ -15,7 +15,6 @@ use Rattle.ciel_look_tasks.specs.Orders.{Ending, after_told, closed, is_open_at,
 use Rattle.ciel_look_tasks.specs.Tasks.{Start}
 use Rattle.ciel_look_tasks.specs.View.{ending_view, how_ending, numbers, order_ends, orders_view, run_number, start_view}
 use Rattle.ciel_look_tasks.specs.declared.scene.End.{End}
-use Rattle.ciel_look_tasks.specs.declared.scene.How.{How}
 use Rattle.ciel_look_tasks.specs.declared.scene.Run.{Run}
 use Rattle.ciel_look_tasks.specs.declared.starts.Held.{Held}
 use Rattle.ciel_look_tasks.proofs.OrderPlaces.{closed_at, closed_nowhere, closed_over, last_next, last_there, number_at, the_some}

@@ -1,6 +1,6 @@
 -- The rows of a scene have the orders and the descriptions of their tasks.
-use Rattle.std.proofs.Common.{◌≡◌, ◌-◌, ◌+◌, ℕ, zero, suc, List, [], ◌∷◌, ◌++◌, Bool, true, false, cond, flat_map, length, map, take, Option, Some, None}
-use Rattle.std.proofs.Common.{append_assoc, arith, length-append, slice_get, refl, ap, sym, ◌∙◌, subst}
+use Rattle.std.proofs.Common.{◌≡◌, ◌-◌, ℕ, zero, suc, List, [], ◌∷◌, ◌++◌, Bool, true, false, cond, flat_map, length, map, take, Option, Some, None}
+use Rattle.std.proofs.Common.{append_assoc, arith, length-append, slice_get, refl, ap, ◌∙◌, subst}
 use Rattle.std.specs.List.{filter}
 use Rattle.sky_base.specs.declared.object.TaskId.{TaskId}
 use Rattle.ciel_look_told.specs.Head.{Head}
@@ -11,8 +11,8 @@ use Rattle.ciel_look_tasks.specs.Known.{knowns, named_at}
 use Rattle.ciel_look_tasks.specs.Learned.{desc_of}
 use Rattle.ciel_look_tasks.specs.Rows.{AreFiled, Filed, filed, filed_task, places_of}
 use Rattle.ciel_look_tasks.specs.SceneView.{end_view, how_view, one_of, order_view, picked, row_view}
-use Rattle.ciel_look_tasks.specs.Seen.{Order, ending_of, first_orders, is_of, orders_of, row_desc, row_orders, row_task}
-use Rattle.ciel_look_tasks.specs.Tasks.{Start, same_task}
+use Rattle.ciel_look_tasks.specs.Seen.{Order, ending_of, first_orders, is_of, row_desc, row_orders, row_task}
+use Rattle.ciel_look_tasks.specs.Tasks.{same_task}
 use Rattle.ciel_look_tasks.specs.View.{ending_view, headings, how_ending, rows, starts_view}
 use Rattle.ciel_look_tasks.specs.declared.scene.End.{End}
 use Rattle.ciel_look_tasks.specs.declared.scene.How.{How}

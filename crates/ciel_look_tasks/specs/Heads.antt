@@ -1,5 +1,5 @@
 -- Tasks with the places of their descriptions.
-use Rattle.std.specs.Prelude.{◌≡◌, ℕ, List, [], ◌∷◌, ◌++◌, Bool, true, cond, flat_map, map, slice_get, Option, Some, None}
+use Rattle.std.specs.Prelude.{◌≡◌, ℕ, List, [], ◌∷◌, ◌++◌, true, cond, flat_map, map, slice_get, Option, Some, None}
 use Rattle.std.specs.List.{list_any}
 use Rattle.sky_base.specs.Val.{Desc}
 use Rattle.sky_base.specs.declared.object.TaskId.{TaskId}

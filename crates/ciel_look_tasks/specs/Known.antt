@@ -1,6 +1,5 @@
 -- Descriptions that are known under names.
-use Rattle.std.specs.Prelude.{ℕ, suc, List, [], ◌∷◌, ◌++◌, cond, is_some, map, slice_get, Option, Some, None}
-use Rattle.std.specs.Option.{option_map}
+use Rattle.std.specs.Prelude.{ℕ, List, [], ◌∷◌, ◌++◌, cond, is_some, map, slice_get, Option, Some, None}
 use Rattle.sky_base.specs.ObjectView.{desc_view}
 use Rattle.sky_base.specs.Val.{Desc, same_text}
 use Rattle.sky_base.specs.declared.object.TaskId.{TaskId}

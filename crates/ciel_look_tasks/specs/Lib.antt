@@ -5,10 +5,16 @@ pub mod Happened
 pub mod Heads
 pub mod Known
 pub mod Learned
+pub mod ObjectPlaces
+pub mod Objects
 pub mod Orders
 pub mod Origins
+pub mod ReportView
+pub mod Reports
 pub mod Rows
 pub mod SceneView
 pub mod Seen
+pub mod StackPlaces
+pub mod Stacks
 pub mod Tasks
 pub mod View

@@ -11,8 +11,11 @@ use Rattle.ciel_look_tasks.specs.Happened as what
 use Rattle.ciel_look_tasks.specs.Happened.{Happened}
 use Rattle.ciel_look_tasks.specs.Known.{Named}
 use Rattle.ciel_look_tasks.specs.Learned as names
+use Rattle.ciel_look_tasks.specs.Objects.{AreTaken}
 use Rattle.ciel_look_tasks.specs.Orders as by
 use Rattle.ciel_look_tasks.specs.Orders.{Ending}
+use Rattle.ciel_look_tasks.specs.Reports as said
+use Rattle.ciel_look_tasks.specs.Stacks as stack
 use Rattle.ciel_look_tasks.specs.Tasks as runs
 use Rattle.ciel_look_tasks.specs.Tasks.{Start, same_task}
 
@@ -75,11 +78,26 @@ ending_of (told outcome waits) = by.ended outcome
 abbrev pub order_ended : Order → Start × Ending
 order_ended o = (o.start, ending_of o.close)
 
+abbrev pub order_took : Order → List (List ℕ)
+order_took o = o.took
+
+abbrev pub order_made : Order → List (List ℕ)
+order_made o = o.made
+
 abbrev pub taken_loss : Taken → ℕ × ℕ
 taken_loss l = l.loss
 
 abbrev pub taken_cut : Taken → List ℕ
 taken_cut l = l.cut
+
+abbrev pub taken_objects : Taken → List (List ℕ)
+taken_objects l = l.objects
+
+abbrev pub taken_stacked : Taken → List TaskId
+taken_stacked l = l.stacked
+
+abbrev pub taken_stacks : Taken → ℕ
+taken_stacks l = l.stacks
 
 -- the orders of a task
 abbrev pub is_of : TaskId → Order → Bool
@@ -98,9 +116,9 @@ row_desc r = r.desc
 abbrev pub row_orders : Row → List Order × ℕ
 row_orders r = (r.orders, r.others)
 
--- what is seen is what was told, as far as it is said here: the tasks, each with what was known of it when it was
--- first started and with its orders, the starts, which of them began a task again, how each order ended, the losses, each with the orders
--- that it cut, what is known, with the tasks that make it, and what happened, in order
+-- what is seen is what was told, as far as it is said here: the tasks, each with what was known of it when it was first started and with its
+-- orders, the starts, which of them began a task again, how each order ended, what it took along and what it made, the losses, each with the
+-- orders that it cut and the stacks and the objects that it took, what is known, with the tasks that make it, and what happened, in order
 pub record IsSeenOf (head : Head) (ts : List Told) (s : Seen) : Type 0 where
   pub tasks : map row_task s.rows ≡ runs.tasks ts
   pub descs : map row_desc s.rows ≡ map (names.desc_of head ts) (map row_task s.rows)
@@ -108,8 +126,13 @@ pub record IsSeenOf (head : Head) (ts : List Told) (s : Seen) : Type 0 where
   pub starts : map order_start s.orders ≡ runs.starts ts
   pub again : map order_again s.orders ≡ agains ts
   pub orders : map order_ended s.orders ≡ by.orders ts
+  pub took : map order_took s.orders ≡ said.took head ts
+  pub made : map order_made s.orders ≡ said.made head ts
   pub losses : map taken_loss s.losses ≡ runs.losses ts
   pub cuts : map taken_cut s.losses ≡ cuts ts
+  pub stacked : map taken_stacked s.losses ≡ stack.stacked ts
+  pub stacks : map taken_stacks s.losses ≡ map length (stack.stacked ts)
+  pub objects : AreTaken head ts (map taken_objects s.losses)
   pub known : s.known ≡ names.known head ts
   pub makers : s.makers ≡ map (names.made_by (short head)) s.known
   pub happened : s.happened ≡ what.happened ts

@@ -1,12 +1,16 @@
 //! What is known of a run's descriptions.
 
-ghost use Rattle.std.specs.Prelude.{◌≡◌, [], IfOk, map};
+ghost use Rattle.std.specs.Prelude.{◌≡◌, [], ◌∷◌, ◌++◌, ◌&&◌, ℕ, List, IfOk, Some, cond, map, nat_eq};
 ghost use Rattle.sky_base.specs.ObjectView.{desc_view};
+ghost use Rattle.sky_base.specs.Val.{Desc};
+ghost use Rattle.sky_base.specs.declared.object.TaskId.{TaskId};
 ghost use Rattle.ciel_look_told.specs.Head as head;
 ghost use Rattle.ciel_look_told.specs.View.{head_view};
 ghost use Rattle.ciel_look_tasks.specs.Heads.{task_place};
 ghost use Rattle.ciel_look_tasks.specs.Known.{knowns, with_known};
 ghost use Rattle.ciel_look_tasks.specs.Learned.{AreMade, given, learned, with_name};
+ghost use Rattle.ciel_look_tasks.specs.ReportView.{TellsOutputs, output_in};
+ghost use Rattle.ciel_look_tasks.specs.Tasks.{same_task};
 
 use crate::register::Register;
 use ciel_look_told::header::Header;
@@ -18,19 +22,12 @@ use sky_base::value::{Pairs, Vals};
 use std::alloc::Global;
 use std::collections::BTreeMap;
 
-/// An output of a task.
-#[derive(Clone, Copy, PartialEq, Eq, PartialOrd, Ord)]
-pub struct Output {
-    task: TaskId,
-    index: u32,
-}
-
-/// Whether names are short, the descriptions that are known, and the name of each output.
+/// Whether names are short, the descriptions that are known, and the name of each output, by the name of its task and its number.
 #[derive(Drop)]
 pub struct Book {
     pub short: bool,
     pub known: Register,
-    pub outputs: BTreeMap<Output, Name>,
+    pub outputs: BTreeMap<(Name, usize), Name>,
 }
 
 impl Book {
@@ -39,6 +36,7 @@ impl Book {
         ensures short { IfOk result (λ b. b.short ≡ head.short (head_view header.now)) }
         ensures known { IfOk result (λ b. knowns b.known.all.items ≡ learned (head.short (head_view header.now)) [] (given (head_view header.now))) }
         ensures made { IfOk result (λ b. AreMade (head.short (head_view header.now)) b.known.all.items) }
+        ensures outputs { IfOk result (λ b. TellsOutputs (head.short (head_view header.now)) b.outputs (given (head_view header.now))) }
     {
         let mut book = Book {
             short: header.job.short,
@@ -64,6 +62,8 @@ impl Book {
         ensures known { IfOk result (λ _. knowns self.new.known.all.items
             ≡ learned self.old.short (knowns self.old.known.all.items) (map desc_view spawned.items)) }
         ensures made { IfOk result (λ _. AreMade self.old.short self.old.known.all.items → AreMade self.old.short self.new.known.all.items) }
+        ensures outputs { IfOk result (λ _. (ds : List (Desc (List ℕ))) → TellsOutputs self.old.short self.old.outputs ds
+            → TellsOutputs self.old.short self.new.outputs (ds ++ map desc_view spawned.items)) }
     {
         for desc in spawned {
             self.learn(alloc, desc)?;
@@ -77,6 +77,8 @@ impl Book {
         ensures known { IfOk result (λ _. knowns self.new.known.all.items
             ≡ with_known (knowns self.old.known.all.items) (with_name self.old.short (desc_view desc))) }
         ensures made { IfOk result (λ _. AreMade self.old.short self.old.known.all.items → AreMade self.old.short self.new.known.all.items) }
+        ensures outputs { IfOk result (λ _. (ds : List (Desc (List ℕ))) → TellsOutputs self.old.short self.old.outputs ds
+            → TellsOutputs self.old.short self.new.outputs (ds ++ desc_view desc ∷ [])) }
     {
         let one = named(alloc, self.short, desc)?;
         note_output(&mut self.outputs, &one)?;
@@ -95,27 +97,51 @@ impl Book {
     }
 
     /// The name of an output of a task, if it is known.
-    pub fn output(&self, task: TaskId, index: u32) -> Option<Name> {
-        self.outputs.get(&Output { task, index }).copied()
+    pub fn output(&self, task: &Name, index: usize) -> Option<Name>
+        ensures name { result ≡ output_in self.now.outputs task.now index }
+    {
+        self.outputs.get(&(*task, index)).copied()
     }
 }
 
 /// The name of an output, where the description is of one.
-fn note_output(names: &mut BTreeMap<Output, Name>, one: &Known) -> Result<(), Memory> {
-    if let Desc1::Exec {
-        executor: _,
-        args: _,
-        outputs: _,
-        index,
-    } = &one.desc
-    {
-        let output = Output {
-            task: one.task,
-            index: *index,
-        };
-        if names.insert(output, one.name).is_err() {
-            return Err(Memory);
+fn note_output(names: &mut BTreeMap<(Name, usize), Name>, one: &Known) -> Result<(), Memory>
+    ensures noted { IfOk result (λ _. (ds : List (Desc (List ℕ))) → TellsOutputs one.now.short names.old ds
+        → TellsOutputs one.now.short names.new (ds ++ desc_view one.now.desc ∷ [])) }
+{
+    match &one.desc {
+        Desc1::Exec {
+            executor: _,
+            args: _,
+            outputs: _,
+            index,
+        } => {
+            put_output(names, one, *index as usize)?;
+            Ok(())
         }
+        Desc1::Call {
+            fun: _,
+            caught: _,
+            args: _,
+        } => Ok(()),
+        Desc1::Input { key: _ } => Ok(()),
     }
-    Ok(())
+}
+
+/// The name of the output of this number of its task.
+fn put_output(
+    names: &mut BTreeMap<(Name, usize), Name>,
+    one: &Known,
+    index: usize,
+) -> Result<(), Memory>
+    ensures put { IfOk result (λ _. (n : List ℕ) (i : ℕ) → output_in names.new n i
+        ≡ cond (same_task (TaskId.Of n) one.now.task && nat_eq index i) (Some one.now.name) (output_in names.old n i)) }
+{
+    let TaskId::Of(task) = one.task else {
+        return Ok(());
+    };
+    match names.insert((task, index), one.name) {
+        Ok(_) => Ok(()),
+        Err(_) => Err(Memory),
+    }
 }

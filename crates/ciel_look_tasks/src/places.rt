@@ -1,6 +1,13 @@
 //! Where objects lie.
 
-ghost use Rattle.std.specs.Prelude.{◌≡◌, [], ◌∷◌, ◌++◌, IfOk, OnErr};
+ghost use Rattle.std.specs.Prelude.{◌≡◌, [], ◌∷◌, ◌++◌, ◌&&◌, ℕ, List, IfOk, OnErr, cond, false, map, nat_eq};
+ghost use Rattle.std.specs.BTreeMap.{IsOrdered};
+ghost use Rattle.std.specs.List.{list_all, list_any};
+ghost use Rattle.sky_base.specs.NameOrder.{name_cmp};
+ghost use Rattle.sky_base.specs.Val.{same_text};
+ghost use Rattle.ciel_look_tasks.specs.ObjectPlaces.{names_where, place_worker, placed, places_of};
+ghost use Rattle.ciel_look_tasks.specs.Objects.{IsTaken, put_at, takes_from};
+ghost use Rattle.ciel_look_tasks.specs.declared.places.Place.{Place};
 
 use sky_base::name::Name;
 use sky_base::text::Memory;
@@ -17,13 +24,16 @@ pub struct Place {
 /// The places of each name, and the workers that are lost.
 #[derive(Drop)]
 pub struct Places {
-    at: BTreeMap<Name, Vec<Place>>,
-    gone: Vec<u32>,
+    pub at: BTreeMap<Name, Vec<Place>>,
+    pub gone: Vec<u32>,
 }
 
 impl Places {
     /// None.
-    pub fn new(alloc: Global) -> Places {
+    pub fn new(alloc: Global) -> Places
+        ensures placed { (n : List ℕ) → placed result.at n ≡ [] }
+        ensures gone { result.gone.items ≡ [] }
+    {
         Places {
             at: BTreeMap::new(alloc),
             gone: Vec::new(alloc),
@@ -31,11 +41,11 @@ impl Places {
     }
 
     /// One more.
-    pub fn put(&mut self, alloc: Global, name: Name, place: Place) -> Result<(), Memory> {
-        if let Some(places) = self.at.get_mut(&name) {
-            return push(places, place);
-        }
-        let mut places = Vec::new(alloc);
+    pub fn put(&mut self, alloc: Global, name: Name, place: Place) -> Result<(), Memory>
+        ensures put { IfOk result (λ _. (n : List ℕ) → placed self.new.at n ≡ placed self.old.at n ++ cond (same_text n name) (place.worker ∷ []) []) }
+        ensures gone { self.new.gone ≡ self.old.gone }
+    {
+        let mut places = take_places(alloc, &mut self.at, &name);
         push(&mut places, place)?;
         match self.at.insert(name, places) {
             Ok(_) => Ok(()),
@@ -54,16 +64,62 @@ impl Places {
     }
 
     /// A worker is lost: the names of the objects that lay there and at no other worker that isn't lost.
-    pub fn lose(&mut self, alloc: Global, worker: u32) -> Result<Vec<Name>, Memory> {
+    pub fn lose(&mut self, alloc: Global, worker: u32) -> Result<Vec<Name>, Memory>
+        ensures objects { IfOk result (λ names.
+            IsTaken (record { worker = worker; gone = self.old.gone.items; at = placed self.old.at }) names.items) }
+        ensures at { self.new.at ≡ self.old.at }
+        ensures gone { IfOk result (λ _. self.new.gone.items ≡ self.old.gone.items ++ worker ∷ []) }
+    {
         push(&mut self.gone, worker)?;
-        let mut lost = Vec::new(alloc);
-        for (name, places) in &self.at {
-            if is_lost(places.as_slice(), worker, self.gone.as_slice()) {
-                push(&mut lost, *name)?;
-            }
-        }
-        Ok(lost)
+        let names = lost_names(alloc, &self.at, worker, self.gone.as_slice())?;
+        Ok(names)
     }
+}
+
+/// The places of a name, which has none then.
+fn take_places(alloc: Global, at: &mut BTreeMap<Name, Vec<Place>>, name: &Name) -> Vec<Place>
+    ensures places { result.items ≡ places_of at.old name.now }
+    ensures others { (n : List ℕ) → same_text n name.now ≡ false → places_of at.new n ≡ places_of at.old n }
+{
+    match at.remove(name) {
+        Some(places) => places,
+        None => Vec::new(alloc),
+    }
+}
+
+/// The names of the objects of which some lie at this worker, and all at lost ones.
+fn lost_names(
+    alloc: Global,
+    at: &BTreeMap<Name, Vec<Place>>,
+    worker: u32,
+    gone: &[u32],
+) -> Result<Vec<Name>, Memory>
+    ensures names { IfOk result (λ names. names.items ≡ names_where (takes_from worker gone.now) at.now.entries) }
+    ensures ordered { IfOk result (λ _. IsOrdered name_cmp at.now) }
+{
+    let mut names = Vec::new(alloc);
+    for (name, places) in at {
+        add_lost(&mut names, name, places.as_slice(), worker, gone)?;
+    }
+    Ok(names)
+}
+
+/// The name, where the object of these places is lost.
+fn add_lost(
+    names: &mut Vec<Name>,
+    name: &Name,
+    places: &[Place],
+    worker: u32,
+    gone: &[u32],
+) -> Result<(), Memory>
+    ensures added { IfOk result (λ _. names.new.items
+        ≡ names.old.items ++ cond (takes_from worker gone.now (map place_worker places.now)) (name.now ∷ []) []) }
+{
+    if is_lost(places, worker, gone) {
+        push(names, *name)?;
+        return Ok(());
+    }
+    Ok(())
 }
 
 /// One more for each name.
@@ -72,7 +128,10 @@ pub fn put_all(
     places: &mut Places,
     names: &[Name],
     place: Place,
-) -> Result<(), Memory> {
+) -> Result<(), Memory>
+    ensures put { IfOk result (λ _. (n : List ℕ) → placed places.new.at n ≡ placed places.old.at n ++ put_at place.worker names.now n) }
+    ensures gone { places.new.gone ≡ places.old.gone }
+{
     for name in names {
         places.put(alloc, *name, place)?;
     }
@@ -80,9 +139,25 @@ pub fn put_all(
 }
 
 /// Whether one of the places is at the worker, and none at one that isn't lost.
-fn is_lost(places: &[Place], worker: u32, gone: &[u32]) -> bool {
-    places.iter().any(|place| place.worker == worker)
-        && places.iter().all(|place| gone.contains(&place.worker))
+fn is_lost(places: &[Place], worker: u32, gone: &[u32]) -> bool
+    ensures { result ≡ (list_any (λ (p : Place). nat_eq worker p.worker) places.now
+        && list_all (λ (p : Place). list_any (nat_eq p.worker) gone.now) places.now) }
+{
+    is_there(places, worker) && are_gone(places, gone)
+}
+
+/// Whether one of the places is at the worker.
+fn is_there(places: &[Place], worker: u32) -> bool
+    ensures { result ≡ list_any (λ (p : Place). nat_eq worker p.worker) places.now }
+{
+    places.iter().any(|place| worker == place.worker)
+}
+
+/// Whether each of the places is at a lost worker.
+fn are_gone(places: &[Place], gone: &[u32]) -> bool
+    ensures { result ≡ list_all (λ (p : Place). list_any (nat_eq p.worker) gone.now) places.now }
+{
+    places.iter().all(|place| gone.contains(&place.worker))
 }
 
 /// Puts something at the end of a list.

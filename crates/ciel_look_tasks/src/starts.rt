@@ -9,21 +9,24 @@ ghost use Rattle.ciel_look_told.specs.Told.{Outcome};
 ghost use Rattle.ciel_look_tasks.specs.CutPlaces.{if_out, out_places};
 ghost use Rattle.ciel_look_tasks.specs.Happened.{closing};
 ghost use Rattle.ciel_look_tasks.specs.Orders.{Ending, closed, cut, cut_so_far, ended, is_open_at, is_out, is_out_at, last_of, out};
+ghost use Rattle.ciel_look_tasks.specs.ReportView.{makes_view, takes_view, whose};
+ghost use Rattle.ciel_look_tasks.specs.SceneView.{made_how};
 ghost use Rattle.ciel_look_tasks.specs.Tasks.{Start};
 ghost use Rattle.ciel_look_tasks.specs.View.{agains_view, ending_view, how_ending, numbers, order_ends, orders_view, starts_view};
 
 use crate::places::push;
 use crate::scene::{End, How, Run};
+use sky_base::object::TaskId;
 use sky_base::text::Memory;
 use std::alloc::Global;
 use std::collections::BTreeMap;
 
-/// An order that is out: its place, its worker, and its task's place.
+/// An order that is out: its place, its worker, and its task.
 #[derive(Clone, Copy)]
 pub struct Held {
     pub run: usize,
     pub worker: u32,
-    pub task: usize,
+    pub id: TaskId,
 }
 
 /// The orders, and the place of the last one of each number.
@@ -40,6 +43,8 @@ impl Starts {
         ensures starts { starts_view result.runs.items ≡ [] }
         ensures orders { orders_view result.runs.items ≡ [] }
         ensures agains { agains_view result.runs.items ≡ [] }
+        ensures took { takes_view result.runs.items ≡ [] }
+        ensures made { makes_view result.runs.items ≡ [] }
     {
         Starts {
             runs: Vec::new(alloc),
@@ -77,6 +82,7 @@ impl Starts {
             (λ h. (s : Start) × (slice_get (orders_view self.now.runs.items) h.run ≡ Some (s, out))
             × ((how : Outcome) → closed number how (orders_view self.now.runs.items) ≡ set (orders_view self.now.runs.items) h.run (s, ended how))) }
         ensures place { option_map (λ h. h.run) result ≡ closing number (orders_view self.now.runs.items) }
+        ensures start { IfSome result (λ h. option_map whose (slice_get (starts_view self.now.runs.items) h.run) ≡ Some (h.worker, h.id)) }
     {
         match self.place(number) {
             Some(place) => self.held(place),
@@ -88,6 +94,7 @@ impl Starts {
     fn held(&self, run: usize) -> Option<Held>
         ensures open { is_some result ≡ is_open_at (slice_get (orders_view self.now.runs.items) run) }
         ensures place { IfSome result (λ h. h.run ≡ run) }
+        ensures start { IfSome result (λ h. option_map whose (slice_get (starts_view self.now.runs.items) h.run) ≡ Some (h.worker, h.id)) }
     {
         match self.runs.get(run) {
             Some(one) => {
@@ -95,7 +102,7 @@ impl Starts {
                     return Some(Held {
                         run,
                         worker: one.worker,
-                        task: one.task,
+                        id: one.id,
                     });
                 }
                 None
@@ -110,6 +117,8 @@ impl Starts {
         ensures agains { agains_view self.new.runs.items ≡ agains_view self.old.runs.items }
         ensures orders { (s : Start) (e : Ending) → slice_get (orders_view self.old.runs.items) run ≡ Some (s, e)
             → orders_view self.new.runs.items ≡ set (orders_view self.old.runs.items) run (s, how_ending end.how) }
+        ensures took { takes_view self.new.runs.items ≡ set (takes_view self.old.runs.items) run end.took.items }
+        ensures made { makes_view self.new.runs.items ≡ set (makes_view self.old.runs.items) run (made_how end.how) }
     {
         if let Some(held) = self.runs.get_mut(run) {
             held.end = Some(end);
@@ -126,6 +135,8 @@ impl Starts {
     ) -> Result<Vec<usize>, Memory>
         ensures starts { starts_view self.new.runs.items ≡ starts_view self.old.runs.items }
         ensures agains { agains_view self.new.runs.items ≡ agains_view self.old.runs.items }
+        ensures took { takes_view self.new.runs.items ≡ takes_view self.old.runs.items }
+        ensures made { makes_view self.new.runs.items ≡ makes_view self.old.runs.items }
         ensures orders { IfOk result (λ _. orders_view self.new.runs.items ≡ map (cut worker) (orders_view self.old.runs.items)) }
         ensures places { IfOk result (λ ps. ps.items ≡ out_places worker 0 (orders_view self.old.runs.items)) }
     {
@@ -148,6 +159,8 @@ impl Starts {
     ) -> Result<(), Memory>
         ensures starts { starts_view self.new.runs.items ≡ starts_view self.old.runs.items }
         ensures agains { agains_view self.new.runs.items ≡ agains_view self.old.runs.items }
+        ensures took { takes_view self.new.runs.items ≡ takes_view self.old.runs.items }
+        ensures made { makes_view self.new.runs.items ≡ makes_view self.old.runs.items }
         ensures orders { IfOk result (λ _. (os : List (Start × Ending)) → orders_view self.old.runs.items ≡ cut_so_far worker run os
             → orders_view self.new.runs.items ≡ cut_so_far worker (run + 1) os) }
         ensures places { IfOk result (λ _. (os : List (Start × Ending)) → orders_view self.old.runs.items ≡ cut_so_far worker run os

@@ -40,7 +40,9 @@ returns-in-Ok-scene_of-clause-story g c =
     let same : IsSeenOf (head_view s.header) told (scene_view c.in-Ok-scene_of.scene) =
     scene_told c.in-Ok-scene_of.scene (head_view s.header) told c.in-Ok-scene_of.ensures.tasks
     c.in-Ok-scene_of.ensures.descs c.in-Ok-scene_of.ensures.rows
-    c.in-Ok-scene_of.ensures.starts c.in-Ok-scene_of.ensures.agains c.in-Ok-scene_of.ensures.orders c.in-Ok-scene_of.ensures.losses c.in-Ok-scene_of.ensures.cuts
+    c.in-Ok-scene_of.ensures.starts c.in-Ok-scene_of.ensures.agains c.in-Ok-scene_of.ensures.orders c.in-Ok-scene_of.ensures.took c.in-Ok-scene_of.ensures.outputs
+    c.in-Ok-scene_of.ensures.losses c.in-Ok-scene_of.ensures.cuts c.in-Ok-scene_of.ensures.stacked c.in-Ok-scene_of.ensures.stacks
+    c.in-Ok-scene_of.ensures.objects
     c.in-Ok-scene_of.ensures.known c.in-Ok-scene_of.ensures.made c.in-Ok-scene_of.ensures.happened in
     of_file content c.as_slice.result.now
     (λ log. (head : Head) × (ts : List Told) × Tells log head ts × IsSeenOf head ts (scene_view c.in-Ok-scene_of.scene))

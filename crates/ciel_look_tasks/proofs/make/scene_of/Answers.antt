@@ -4,13 +4,19 @@ use Rattle.ciel_look_told.specs.View.{head_view, told_view}
 use Rattle.ciel_look_told.specs.Head.{short}
 use Rattle.ciel_look_tasks.specs.Known.{knowns}
 use Rattle.ciel_look_tasks.specs.Learned.{AreMade, learned, made_by, spawned}
-use Rattle.ciel_look_tasks.specs.View.{starts_view}
+use Rattle.ciel_look_tasks.specs.ObjectPlaces.{objects_view}
+use Rattle.ciel_look_tasks.specs.Objects.{AreTaken}
+use Rattle.ciel_look_tasks.specs.Stacks.{stacked}
+use Rattle.ciel_look_tasks.specs.View.{ids, starts_view}
 use Rattle.ciel_look_tasks.proofs.AgainSteps.{agains_next}
 use Rattle.ciel_look_tasks.proofs.CutSteps.{cuts_next}
 use Rattle.ciel_look_tasks.proofs.HappenedSteps.{happened_next}
 use Rattle.ciel_look_tasks.proofs.KnownSteps.{known_next}
+use Rattle.ciel_look_tasks.proofs.ObjectSteps.{gone_next, placed_next, taken_next}
+use Rattle.ciel_look_tasks.proofs.ReportSteps.{makes_next, names_next, takes_next}
 use Rattle.ciel_look_tasks.proofs.RollSteps.{all_yielded, heads_next, heads_same, losses_next, rows_same, starts_next, tasks_next}
 use Rattle.ciel_look_tasks.proofs.RunSteps.{orders_next}
+use Rattle.ciel_look_tasks.proofs.StackSteps.{counts_seen, stacked_next}
 use Rattle.ciel_look_tasks.proofs.make.scene_of.Goals as goal
 
 pub loop-one-preserved : goal.loop-one-preserved
@@ -32,6 +38,20 @@ loop-one-preserved c =
       origins = c.in_ok-take.ensures.origins l.invariant.origins;
       cuts = cuts_next l.yielded c.in-Some.one _ _ _ l.invariant.orders l.invariant.cuts (c.in_ok-take.ensures.cuts l.invariant.kept);
       kept = c.in_ok-take.ensures.kept l.invariant.kept;
+      took = takes_next (head_view c.args.story.header) l.yielded c.in-Some.one l.maker.book.short _ _ _ l.invariant.short l.invariant.orders
+          l.invariant.took c.in_ok-take.ensures.took;
+      outputs = makes_next (head_view c.args.story.header) l.yielded c.in-Some.one l.maker.book.short l.maker.book.outputs _ _ _ l.invariant.short
+          l.invariant.names l.invariant.orders l.invariant.outputs c.in_ok-take.ensures.outputs;
+      names = names_next (head_view c.args.story.header) l.yielded c.in-Some.one l.maker.book.short l.maker.book.outputs c.take.new.self.book.outputs
+          l.invariant.short l.invariant.names c.in_ok-take.ensures.names;
+      places = placed_next (head_view c.args.story.header) l.yielded c.in-Some.one l.maker.book.short l.maker.book.outputs _ l.maker.places.at
+          c.take.new.self.places.at l.invariant.short l.invariant.names l.invariant.orders l.invariant.places c.in_ok-take.ensures.places;
+      gone = gone_next l.yielded c.in-Some.one l.maker.places.gone.items _ l.invariant.gone c.in_ok-take.ensures.gone;
+      objects = taken_next (head_view c.args.story.header) l.yielded c.in-Some.one l.maker.places.gone.items l.maker.places.at _ _ l.invariant.gone
+          l.invariant.places l.invariant.objects c.in_ok-take.ensures.objects;
+      stacked = stacked_next l.yielded c.in-Some.one _ _ _ _ l.invariant.tasks l.invariant.orders l.invariant.stacked
+          (c.in_ok-take.ensures.stacked l.invariant.rows l.invariant.have);
+      have = c.in_ok-take.ensures.have l.invariant.rows l.invariant.have;
       losses = losses_next l.yielded c.in-Some.one _ _ l.invariant.losses c.in_ok-take.ensures.losses;
       made = subst (λ b. AreMade b c.take.new.self.book.known.all.items) l.invariant.short
           (c.in_ok-take.ensures.made (subst (λ b. AreMade b l.maker.book.known.all.items) (sym l.invariant.short) l.invariant.made));
@@ -52,6 +72,25 @@ returns-clause-descs c =
     let none : length rest.items ≡ 0 = sym rest.ok.0 ∙ c.in-None.ensures.steps.0 in
     let all = all_yielded l.yielded rest.items c.args.story.told.items none l.invariant.so_far in
     heads_same (head_view c.args.story.header) _ _ _ _ _ _ c.into_scene.ensures.headings c.into_scene.ensures.known all l.invariant.descs
+
+pub returns-clause-stacks : goal.returns-clause-stacks
+returns-clause-stacks c =
+    let l = c.loop-one in
+    let rest = l.one-iterator.rest in
+    let none : length rest.items ≡ 0 = sym rest.ok.0 ∙ c.in-None.ensures.steps.0 in
+    let all = all_yielded l.yielded rest.items c.args.story.told.items none l.invariant.so_far in
+    c.into_scene.ensures.stacks ∙ counts_seen (ids l.maker.roll.tasks.items) l.maker.losses.items l.invariant.have
+    ∙ ap (map length) (l.invariant.stacked ∙ ap (λ ts. stacked (map told_view ts)) all)
+
+pub returns-clause-objects : goal.returns-clause-objects
+returns-clause-objects c =
+    let l = c.loop-one in
+    let h = head_view c.args.story.header in
+    let rest = l.one-iterator.rest in
+    let none : length rest.items ≡ 0 = sym rest.ok.0 ∙ c.in-None.ensures.steps.0 in
+    let all = all_yielded l.yielded rest.items c.args.story.told.items none l.invariant.so_far in
+    subst (AreTaken h (map told_view c.args.story.told.items)) (sym c.into_scene.ensures.objects)
+    (subst (λ ts. AreTaken h (map told_view ts) (objects_view l.maker.losses.items)) all l.invariant.objects)
 
 pub returns-clause-made : goal.returns-clause-made
 returns-clause-made c =

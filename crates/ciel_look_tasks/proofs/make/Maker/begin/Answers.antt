@@ -1,10 +1,10 @@
 -- The task has a start more.
-use Rattle.std.proofs.Common.{◌++◌, ◌∷◌, [], ap, ◌∙◌}
-use Rattle.std.proofs.lemmas.List.{map-append}
+use Rattle.std.proofs.Common.{◌++◌, ◌∷◌, [], ap, refl, ◌∙◌}
 use Rattle.ciel_look_tasks.specs.Heads.{with_heading}
 use Rattle.ciel_look_tasks.specs.View.{agains_view, headings, starts_view}
 use Rattle.ciel_look_tasks.proofs.AgainSteps.{agains_pushed, origins_next}
 use Rattle.ciel_look_tasks.proofs.HappenedSteps.{begun_pushed}
+use Rattle.ciel_look_tasks.proofs.ReportSteps.{makes_pushed, takes_pushed}
 use Rattle.ciel_look_tasks.proofs.RollSteps.{rows_begun, starts_pushed}
 use Rattle.ciel_look_tasks.proofs.RunSteps.{orders_pushed}
 use Rattle.ciel_look_tasks.proofs.make.Maker.begin.Goals as goal
@@ -41,3 +41,9 @@ returns-clause-origins c =
 
 pub returns-clause-happened : goal.returns-clause-happened
 returns-clause-happened c = begun_pushed c.args.self.now.happened.items _ _ _ c.in_ok-push.ensures.pushed c.in_ok-run.ensures.place
+
+pub returns-clause-took : goal.returns-clause-took
+returns-clause-took c = takes_pushed _ _ _ c.in_ok-run.ensures.added refl
+
+pub returns-clause-outputs : goal.returns-clause-outputs
+returns-clause-outputs c = makes_pushed _ _ _ c.in_ok-run.ensures.added refl

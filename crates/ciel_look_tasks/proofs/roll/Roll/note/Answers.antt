@@ -1,5 +1,5 @@
 -- The tasks stay; one has an order more.
-use Rattle.std.proofs.Common.{◌≡◌, Bool, false, true, ap, arith, refl, sym, ◌∙◌}
+use Rattle.std.proofs.Common.{◌≡◌, false, true, ap, arith, refl, sym, ◌∙◌}
 use Rattle.sky_base.specs.declared.object.TaskId.{TaskId}
 use Rattle.ciel_look_tasks.specs.Tasks.{place_in}
 use Rattle.ciel_look_tasks.specs.declared.scene.Task.{Task}

@@ -1,6 +1,8 @@
 -- The starts stay, and the order ends.
 use Rattle.std.proofs.Common.{Some, ap, arith, refl, sym, ◌∙◌}
+use Rattle.std.proofs.lemmas.List.{map-set}
 use Rattle.ciel_look_tasks.specs.Orders.{last_of}
+use Rattle.ciel_look_tasks.specs.ReportView.{run_made, run_took}
 use Rattle.ciel_look_tasks.specs.declared.scene.Run.{Run}
 use Rattle.ciel_look_tasks.proofs.AgainSteps.{agains_closed}
 use Rattle.ciel_look_tasks.proofs.RollSteps.{starts_closed}
@@ -40,6 +42,8 @@ returns-in-Some c =
     record {
       starts = starts_closed rs.items c.args.run x y refl c.in-Some.ensures.value;
       agains = agains_closed rs.items c.args.run x y refl c.in-Some.ensures.value;
+      took = map-set run_took rs.items c.args.run y;
+      made = map-set run_made rs.items c.args.run y;
       orders = λ s e h. orders_closed rs.items c.args.run x y c.args.end s e (omega (arith, c.in-Some.ensures.variant.0 refl, rs.ok.0))
           c.in-Some.ensures.value refl refl h;
     }

@@ -1,5 +1,5 @@
 -- One order more is looked at.
-use Rattle.std.proofs.Common.{◌≡◌, ◌≤◌, ap, arith, length, sym, ◌∙◌}
+use Rattle.std.proofs.Common.{◌≤◌, ap, arith, length, ◌∙◌}
 use Rattle.std.proofs.lemmas.List.{length-map, take_all}
 use Rattle.ciel_look_tasks.specs.Orders.{cut}
 use Rattle.ciel_look_tasks.specs.View.{order_ends, orders_view}
@@ -13,6 +13,8 @@ loop-run-preserved c =
     let l = c.loop-run in
     record {
       starts = c.cut_at.ensures.starts ∙ l.invariant.starts;
+      took = c.cut_at.ensures.took ∙ l.invariant.took;
+      made = c.cut_at.ensures.made ∙ l.invariant.made;
       places = out_more c.args.worker (orders_view c.args.self.now.runs.items) l.run l.runs.items _ l.invariant.places
           (c.in_ok-cut_at.ensures.places (orders_view c.args.self.now.runs.items) l.invariant.orders);
       agains = c.cut_at.ensures.agains ∙ l.invariant.agains;

@@ -8,6 +8,7 @@ returns-in-Some c =
     record {
       order = order_held rs c.args.number c.in-Some.place c.held.result c.in-Some.ensures.place c.held.ensures.open c.held.ensures.place;
       place = order_place rs c.args.number c.in-Some.place c.held.result c.in-Some.ensures.place c.held.ensures.open c.held.ensures.place;
+      start = c.held.ensures.start;
     }
 
 pub returns-in-None : goal.returns-in-None
@@ -16,4 +17,5 @@ returns-in-None c =
     record {
       order = order_none rs c.args.number c.in-None.ensures.place;
       place = order_nowhere rs c.args.number c.in-None.ensures.place;
+      start = tt;
     }
