@@ -7,7 +7,7 @@ ghost use Rattle.line_flow.specs.Told.{opened, fed_more, CanFeed};
 ghost use Rattle.line_flow.specs.Stands.{Stands};
 
 use crate::flow::{Flow, FlowRefusal};
-use line_kit::executor::executor_of;
+use line_kit::executor::{Executor, executor_of};
 use line_kit::kit::LineKit;
 use line_kit::output::Answer;
 use sky_base::fault::FaultKind;
@@ -52,6 +52,14 @@ fn run_flow(flow: Flow, inputs: &[Bytes], count: u32) -> Answer
     flow.end()
 }
 
+// Whether a flow of this executor would do no more than gather its lines.
+fn takes_all(executor: &Txt) -> bool {
+    matches!(
+        executor_of(executor.as_str()),
+        Some(Executor::Split | Executor::Sort)
+    )
+}
+
 impl Kit for FlowKit {
     ghost use Rattle.std.specs.Prelude.{◌≡◌, ℕ, List, IfOk, false, is_some, Err};
     ghost use Rattle.sky_base.specs.declared.fault.FaultKind.{FaultKind as kind};
@@ -80,6 +88,9 @@ impl Kit for FlowKit {
         inputs: &[Bytes],
         outputs: u32,
     ) -> Result<Result<Vec<Bytes>, FaultKind>, Memory> {
+        if takes_all(executor) {
+            return LineKit.run(alloc, executor, args, inputs, outputs);
+        }
         let Ok(count) = u32::try_from(inputs.len()) else {
             return LineKit.run(alloc, executor, args, inputs, outputs);
         };

@@ -1,15 +1,16 @@
 // The executors with several outputs: lines in equal parts, and lines in turn.
 
-ghost use Rattle.std.specs.Prelude.{◌≡◌, ◌<◌, ◌^◌, IfOk, Some, [], replicate};
+ghost use Rattle.std.specs.Prelude.{◌≡◌, ◌<◌, ◌^◌, IfOk, Some, [], drop, false, length, replicate, take};
 ghost use Rattle.sky_base.specs.KitView.{RunsSo};
-ghost use Rattle.line_kit.specs.Lines.{all_lines};
+ghost use Rattle.line_kit.specs.Lines.{all_lines, is_open, joined, lines};
 ghost use Rattle.line_kit.specs.Parts.{share, cut, dealt};
 ghost use Rattle.line_kit.specs.Gives.{with_lines};
 
-use crate::counts::line_count;
-use crate::lines::Lines;
-use crate::output::{Answer, Output, close};
+use crate::counts::{line_count, lines_in};
+use crate::lines::{Lines, is_open};
+use crate::output::{Answer, MOST_BYTES, Output, close};
 use crate::picks::put_some;
+use sky_base::fault::FaultKind;
 use sky_base::text::{Bytes, Memory};
 use std::alloc::Global;
 
@@ -22,8 +23,19 @@ fn share(lines: u128, outputs: u32) -> u128
     (lines + (u128::from(outputs) - 1)) / u128::from(outputs)
 }
 
-/// The lines in parts of equal numbers, the last ones with fewer.
+/// The lines in parts of equal numbers, the last ones with fewer. Parts of one input that ends with a line feed share its bytes.
 pub(crate) fn split(alloc: Global, inputs: &[Bytes], outputs: u32) -> Answer
+    requires { 0 < outputs }
+    ensures { IfOk result (λ r. RunsSo r (with_lines (cut outputs (all_lines inputs.now)))) }
+{
+    if inputs.len() == 1 && !is_open(inputs[0].as_slice()) {
+        return share_out(alloc, &inputs[0], outputs);
+    }
+    copy_out(alloc, inputs, outputs)
+}
+
+// The lines of some inputs in parts, each a copy.
+fn copy_out(alloc: Global, inputs: &[Bytes], outputs: u32) -> Answer
     requires { 0 < outputs }
     ensures { IfOk result (λ r. RunsSo r (with_lines (cut outputs (all_lines inputs.now)))) }
 {
@@ -38,6 +50,50 @@ pub(crate) fn split(alloc: Global, inputs: &[Bytes], outputs: u32) -> Answer
         }
     }
     close(alloc, all)
+}
+
+// The lines of one input that ends with a line feed in parts, each a part of its bytes.
+fn share_out(alloc: Global, input: &Bytes, outputs: u32) -> Answer
+    requires some { 0 < outputs }
+    requires closed { is_open input.now ≡ false }
+    ensures { IfOk result (λ r. RunsSo r (with_lines (cut outputs (lines input.now)))) }
+{
+    let bytes = input.as_slice();
+    let part = share(lines_in(bytes) as u128, outputs);
+    let mut all = Vec::new(alloc);
+    let mut lines = Lines::of(bytes);
+    let mut from = 0;
+    let mut longest = 0;
+    for _next in 0..outputs {
+        let long = written_len(&mut lines, part);
+        if all.push(input.part(from, from + long)?).is_err() {
+            return Err(Memory);
+        }
+        from += long;
+        longest = longest.max(long);
+    }
+    if longest > MOST_BYTES {
+        return Ok(Err(FaultKind::TooLarge));
+    }
+    Ok(Ok(all))
+}
+
+// How many bytes the next so many lines have, or all that are left, each with its line feed.
+fn written_len(lines: &mut Lines, count: u128) -> usize
+    requires bound { length (joined lines.old) < 2 ^ 64 }
+    ensures length { result ≡ length (joined (take count lines.old)) }
+    ensures lines { lines.new ≡ drop count lines.old }
+{
+    let mut left = count;
+    let mut length = 0;
+    while left > 0 {
+        let Some(line) = lines.next_line() else {
+            return length;
+        };
+        length += line.len() + 1;
+        left -= 1;
+    }
+    length
 }
 
 fn empty_outputs(alloc: Global, outputs: u32) -> Result<Vec<Output>, Memory>

@@ -1,7 +1,7 @@
 // Texts and byte lists. A text and a byte list may have several owners, by `Arc`, so that
 // sharing one takes constant time.
 
-ghost use Rattle.std.specs.Prelude.{◌≡◌, ◌↔◌, IfOk, IsTrue, [], length, string_bytes};
+ghost use Rattle.std.specs.Prelude.{◌≡◌, ◌↔◌, ◌≤◌, IfOk, IsTrue, [], length, slice_range, string_bytes};
 ghost use Rattle.std.proofs.Common.{rules};
 ghost use Rattle.std.specs.Cmp.{partial_order_from_own_ties};
 ghost use Rattle.std.specs.Cmp.Lexicographic.{slice_cmp};
@@ -140,19 +140,23 @@ impl AsStr for Txt {
     }
 }
 
-/// Bytes, which several owners may share. Contracts see them as a list.
+/// Bytes, which several owners may share, or a part of such. Contracts see them as a list.
 #[derive(Drop)]
 pub struct Bytes {
     held: Arc<Vec<u8>, Global>,
+    from: usize,
+    to: usize,
 }
 
 impl Model for Bytes {
-    ghost use Rattle.std.specs.Prelude.{List, ℕ};
+    ghost use Rattle.std.specs.Prelude.{List, ℕ, ◌≤◌, length, slice_range};
     ghost use Rattle.std.specs.Arc.{arc_value};
 
     ghost Value = { List ℕ };
 
-    ghost view = { λ b. (arc_value b.held).items };
+    ghost view = { λ b. slice_range (arc_value b.held).items b.from b.to };
+
+    ghost invariant = { λ b. (b.from ≤ b.to) × (b.to ≤ length (arc_value b.held).items) };
 }
 
 impl Bytes {
@@ -160,8 +164,9 @@ impl Bytes {
     pub fn new(alloc: Global, bytes: Vec<u8>) -> Result<Bytes, Memory>
         ensures { IfOk result (λ b. b ≡ bytes.items) }
     {
+        let to = bytes.len();
         match Arc::new(alloc, bytes) {
-            Ok(held) => Ok(Bytes { held }),
+            Ok(held) => Ok(Bytes { held, from: 0, to }),
             Err(_) => Err(Memory),
         }
     }
@@ -171,7 +176,28 @@ impl Bytes {
         ensures { IfOk result (λ b. b ≡ self.now) }
     {
         match Arc::try_clone(&self.held) {
-            Ok(held) => Ok(Bytes { held }),
+            Ok(held) => Ok(Bytes {
+                held,
+                from: self.from,
+                to: self.to,
+            }),
+            Err(_) => Err(Memory),
+        }
+    }
+
+    /// The bytes from one place up to another, in constant time: none is copied. As long as the part has an owner, the memory of all the bytes is
+    /// kept.
+    pub fn part(&self, from: usize, to: usize) -> Result<Bytes, Memory>
+        requires order { from ≤ to }
+        requires bound { to ≤ length self.now }
+        ensures part { IfOk result (λ b. b ≡ slice_range self.now from to) }
+    {
+        match Arc::try_clone(&self.held) {
+            Ok(held) => Ok(Bytes {
+                held,
+                from: self.from + from,
+                to: self.from + to,
+            }),
             Err(_) => Err(Memory),
         }
     }
@@ -180,6 +206,6 @@ impl Bytes {
     pub fn as_slice(&self) -> &[u8]
         ensures { result.now ≡ self.now }
     {
-        self.held.as_slice()
+        &self.held.as_slice()[self.from..self.to]
     }
 }

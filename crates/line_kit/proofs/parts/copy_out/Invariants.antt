@@ -2,7 +2,7 @@ use Rattle.std.proofs.Common.{◌≡◌, ◌*◌, map, take, drop}
 use Rattle.std.specs.List.{range_with_len}
 use Rattle.line_kit.specs.Lines.{all_lines, joined}
 use Rattle.line_kit.specs.Written.{capped, finished}
-use Rattle.line_kit.proofs.parts.split.Given as goal
+use Rattle.line_kit.proofs.parts.copy_out.Given as goal
 
 abbrev pub invariant-loop-k : goal.invariant-loop-k
 invariant-loop-k l = record {

@@ -9,7 +9,7 @@ use Rattle.line_kit.specs.Parts.{share, cut}
 use Rattle.line_kit.specs.Gives.{Answer}
 use Rattle.line_kit.specs.Written.{capped, extended, finished}
 use Rattle.line_kit.proofs.WrittenLaw.{extended-start, closed_with}
-use Rattle.line_kit.proofs.parts.split.Goals as goal
+use Rattle.line_kit.proofs.parts.copy_out.Goals as goal
 
 more_times : (k q : ℕ) → k * q + q ≡ (k + 1) * q
 more_times k q = grind arith
