@@ -34,6 +34,13 @@ impl<'a> Reader<'a> {
         self.left.is_empty()
     }
 
+    /// How many bytes are left.
+    pub fn len(&self) -> usize
+        ensures { result ≡ length self.now }
+    {
+        self.left.len()
+    }
+
     /// The next byte, if there is one.
     pub fn byte(&mut self) -> Option<u8>
         ensures { MatchOption result (self.old ≡ []) (λ b. self.old ≡ b ∷ self.new) }
