@@ -4,6 +4,7 @@ pub mod Cut
 pub mod Found
 pub mod Digits
 pub mod OpenLaw
+pub mod EndsLaw
 pub mod FirstWord
 pub mod TotalsLaw
 pub mod Seen

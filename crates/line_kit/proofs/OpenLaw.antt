@@ -11,7 +11,7 @@ some_line x true ms = ([], ms, refl)
 some_line x false [] = (x ∷ [], [], refl)
 some_line x false (m ∷ ms) = (x ∷ m, ms, refl)
 
-lines_some : (x : ℕ) (xs : List ℕ) → (l : List ℕ) × (ls : List (List ℕ)) × (lines (x ∷ xs) ≡ l ∷ ls)
+pub lines_some : (x : ℕ) (xs : List ℕ) → (l : List ℕ) × (ls : List (List ℕ)) × (lines (x ∷ xs) ≡ l ∷ ls)
 lines_some x xs = some_line x (x == 10) (lines xs)
 
 joined-with_byte : (x : ℕ) (ls : List (List ℕ)) (l : List ℕ) (ms : List (List ℕ)) → ls ≡ l ∷ ms → joined (with_byte x ls) ≡ x ∷ joined ls
@@ -51,7 +51,7 @@ length-more : (x y : ℕ) (ys : List ℕ) (b : Bool) → length (cond b ([] ∷ 
 length-more x y ys true = omega arith
 length-more x y ys false = let s = lines_some y ys in length-with_byte x (lines (y ∷ ys)) s.0 s.1 s.2 ∙ omega arith
 
-count_by-cons : (x : ℕ) (xs : List ℕ) → count_by is_feed (x ∷ xs) ≡ cond (is_feed x) 1 0 + count_by is_feed xs
+pub count_by-cons : (x : ℕ) (xs : List ℕ) → count_by is_feed (x ∷ xs) ≡ cond (is_feed x) 1 0 + count_by is_feed xs
 count_by-cons x xs = sum_by-cons (λ y. cond (is_feed y) 1 0) x xs
 
 pub length-lines : (xs : List ℕ) → length (lines xs) ≡ count_by is_feed xs + cond (is_open xs) 1 0

@@ -13,7 +13,7 @@ use sky_base::text::Bytes;
 use std::alloc::Global;
 
 #[tactic(auto, using(crate::proofs::FeedLaw::feeds))]
-fn line_feeds(bytes: &[u8]) -> usize
+pub(crate) fn line_feeds(bytes: &[u8]) -> usize
     ensures value { result ≡ count_by (λ b. b == 10) bytes.now }
     ensures bound { result ≤ length bytes.now }
 {
