@@ -21,7 +21,7 @@ use Rattle.ciel_name.specs.Spelled.{IsData}
 use Rattle.sky_frozen_bytes.specs.Bytes.{counted}
 use Rattle.ciel_memo_key.specs.Keys.{block}
 use Rattle.ciel_memo_file.specs.declared.entry.Entry.{Entry as Held}
-use Rattle.ciel_memo_file.specs.Added.{HasNoRoom, IsKeyed, IsNew, Keyed, Puts, entries_of, made_by}
+use Rattle.ciel_memo_file.specs.Added.{Behind, HasNoRoom, IsKeyed, IsNew, Keyed, Puts, entries_of, made_by}
 use Rattle.ciel_memo_file.specs.Added.Puts.{put, left}
 use Rattle.ciel_memo_file.specs.Entries.{Entry, entry_view, has_key}
 use Rattle.ciel_memo_file.specs.File.{IsBlock, IsMemo, IsSpelled, IsWhole, entry_bytes, file_bytes, key_bytes, most_of_an_entry}
@@ -323,3 +323,13 @@ module _ (memo all : List Entry) (p : Keyed) (ps : List Keyed) where
         others = g.others.1;
         seen = λ d i. seen_put old new g.added (omega (arith, ap length text, length-append old (entry_bytes e))) d (g.seen d i);
       }
+
+-- the file of a memo with nothing new behind it
+pub nothing_new : (memo fresh : List Entry) (bs : List ℕ) → fresh ≡ [] → IsMemo (file_bytes memo) memo → bs ≡ file_bytes memo → Behind memo fresh bs []
+nothing_new memo fresh bs none m e =
+    let same : memo ≡ memo ++ [] = sym (append-nil memo) in
+    record {
+      file = subst (IsMemo bs) same (subst (λ (b : List ℕ). IsMemo b memo) (sym e) m);
+      among = tt;
+      all = λ x i. absurd (subst (In x) none i);
+    }

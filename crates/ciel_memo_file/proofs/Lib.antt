@@ -1,5 +1,6 @@
 pub mod Spelling
 pub mod Files
+mod Ends
 mod Windows
 mod Places
 pub mod Keys

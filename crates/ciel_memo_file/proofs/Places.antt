@@ -238,10 +238,11 @@ ordered es ps h s = record {
   each = λ j l. let t = has_index j ps (h.each j l) in (t.0, omega (arith, t.1, many_keys ps), t.2);
 }
 
-pub stands : (es : List Entry) (keys : List (List ℕ)) (order : List ℕ) (ps : Pairs) → IsMemo (file_bytes es) es → Placed es ps
-    → IsStrictlySortedBy cmp (keys_of ps) → keys ≡ keys_of ps → order ≡ orders ps → Stands es keys order
-stands es keys order ps m p s k o = record {
+pub stands : (es : List Entry) (keys : List (List ℕ)) (order bs : List ℕ) (ps : Pairs) → IsMemo (file_bytes es) es → Placed es ps
+    → IsStrictlySortedBy cmp (keys_of ps) → keys ≡ keys_of ps → order ≡ orders ps → bs ≡ file_bytes es → Stands es keys order (Some bs)
+stands es keys order bs ps m p s k o f = record {
   memo = m;
+  file = f;
   ordered = subst (λ ks. Ordered es ks order) (sym k) (subst (λ os. Ordered es (keys_of ps) os) (sym o) (ordered es ps p s));
 }
 

@@ -36,18 +36,35 @@ short front m e new h =
     let cut : length (take m front) ≡ min m (length front) = length-take m front in
     (omega (arith, long, cut), omega (arith, long, cut))
 
-pub entry_length : (e : Entry) (k : List ℕ) (n : ℕ) → k ≡ key_bytes e → n ≡ length (flat_map block e.made) → length k + n ≡ length (entry_bytes e)
-entry_length e k n h g =
+-- what stands in front of the window stands in front
+pub front_is : (front : List ℕ) (m : ℕ) (e : Entry) (new : List ℕ) → take m front ≡ entry_bytes e ++ new → front ≡ entry_bytes e ++ (new ++ drop m front)
+front_is front m e new h =
+    sym (take-append-drop m front) ∙ ap (λ b. b ++ drop m front) h ∙ append_assoc (entry_bytes e) new (drop m front)
+
+pub key_front : (front : List ℕ) (m : ℕ) (e : Entry) (new : List ℕ) → take m front ≡ entry_bytes e ++ new
+    → front ≡ key_bytes e ++ (flat_map block e.made ++ (new ++ drop m front))
+key_front front m e new h = front_is front m e new h ∙ append_assoc (key_bytes e) (flat_map block e.made) (new ++ drop m front)
+
+-- how much of the window was read, and how much of that is the key
+pub read_length : (front : List ℕ) (room m left n : ℕ) (e : Entry) (new : List ℕ) → m ≡ most front room → take m front ≡ entry_bytes e ++ new
+    → left ≡ length new → n ≡ m - left → n ≡ length (entry_bytes e)
+read_length front room m left n e new is h l d =
+    let long : length (take m front) ≡ length (entry_bytes e) + length new = ap length h ∙ length-append (entry_bytes e) new in
+    let cut : length (take m front) ≡ min m (length front) = length-take m front in
+    omega (arith, is, long, cut, l, d)
+
+pub key_length : (e : Entry) (n blocks k : ℕ) → n ≡ length (entry_bytes e) → blocks ≡ length (flat_map block e.made) → k ≡ n - blocks
+    → k ≡ length (key_bytes e)
+key_length e n blocks k h g d =
     let two : length (entry_bytes e) ≡ length (key_bytes e) + length (flat_map block e.made) =
     length-append (key_bytes e) (flat_map block e.made) in
-    omega (arith, ap length h, g, two)
+    omega (arith, h, g, d, two)
 
 pub next_read : (front : List ℕ) (room m : ℕ) (e : Entry) (new k : List ℕ) (n : ℕ) (rest : List ℕ) → m ≡ most front room
     → ReadAs entry_bytes IsSpelled (take m front) e new → k ≡ key_bytes e → n ≡ length (entry_bytes e)
     → rest ≡ take (length front - n) (drop n front) → NextRead room front e k rest
 next_read front room m e new k n rest is r key long left =
-    let whole : front ≡ entry_bytes e ++ (new ++ drop m front) =
-    sym (take-append-drop m front) ∙ ap (λ b. b ++ drop m front) r.0 ∙ append_assoc (entry_bytes e) new (drop m front) in
+    let whole = front_is front m e new r.0 in
     let behind : rest ≡ new ++ drop m front =
     left ∙ take_rest front n ∙ ap (λ i. drop i front) long ∙ ap (λ b. drop (length (entry_bytes e)) b) whole
     ∙ drop-append_seam (entry_bytes e) (new ++ drop m front) in

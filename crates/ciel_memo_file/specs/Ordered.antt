@@ -1,5 +1,5 @@
 -- Entries beside their keys in order.
-use Rattle.std.specs.Prelude.{◌≡◌, ◌<◌, ℕ, List, [], length, slice_index_or}
+use Rattle.std.specs.Prelude.{◌≡◌, ◌<◌, ℕ, List, [], IfSome, Option, length, slice_index_or}
 use Rattle.sky_base.specs.Val.{null}
 use Rattle.ciel_memo_key.specs.Sorted.{Rises, at}
 use Rattle.ciel_memo_file.specs.Entries.{Entry}
@@ -22,7 +22,8 @@ pub record Ordered (es : List Entry) (keys : List (List ℕ)) (order : List ℕ)
   pub here : (i : ℕ) → i < length keys → at keys i ≡ key_bytes (entry_at es (place_at order i))
   pub each : (j : ℕ) → j < length es → (i : ℕ) × (i < length keys) × (place_at order i ≡ j)
 
--- and they are those of a file
-pub record Stands (es : List Entry) (keys : List (List ℕ)) (order : List ℕ) : Type 0 where
+-- and they are those of a file, the one that was read where one was
+pub record Stands (es : List Entry) (keys : List (List ℕ)) (order : List ℕ) (read : Option (List ℕ)) : Type 0 where
   pub memo : IsMemo (file_bytes es) es
   pub ordered : Ordered es keys order
+  pub file : IfSome read (λ bytes. bytes ≡ file_bytes es)

@@ -1,10 +1,18 @@
 -- What the steps of reading a file say.
-use Rattle.std.specs.Prelude.{◌≡◌, ◌<◌, ◌≤◌, ◌⊎◌, ℕ, List, [], ◌∷◌, ◌++◌, Bool, true, false, length, map}
+use Rattle.std.specs.Prelude.{◌≡◌, ◌<◌, ◌≤◌, ◌⊎◌, ℕ, List, [], ◌∷◌, ◌++◌, Bool, true, false, length, map, take}
 use Rattle.sky_base_law.specs.Tasks.{Each, In}
 use Rattle.ciel_memo_file.specs.declared.gathered.Gathered.{Gathered}
 use Rattle.ciel_memo_file.specs.Entries.{Entry, entry_view}
 use Rattle.ciel_memo_file.specs.File.{IsMemo, IsWhole, entry_bytes, file_bytes, key_bytes}
 use Rattle.ciel_memo_file.specs.Ordered.{entry_at}
+
+-- ---- where it stands
+
+-- the first so many bytes of a file end with these
+pub record EndsWith (file : List ℕ) (end : ℕ) (left : List ℕ) : Type 0 where
+  pub before : List ℕ
+  pub bytes : take end file ≡ before ++ left
+  pub within : end ≤ length file
 
 -- ---- the next entry
 

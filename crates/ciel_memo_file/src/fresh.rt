@@ -74,11 +74,24 @@ impl<'a> Fresh<'a> {
 
 impl Memo {
     /// The bytes of a file: the entries of the memo, in order, and then of the new ones, in the order of the bytes of their keys, each that has
-    /// another key than the memo's, can be read again, and passes no limit.
+    /// another key than the memo's, can be read again, and passes no limit. Where nothing is new it is the file that was read, and no byte is copied.
     ///
     /// Answers `Memory` for want of memory.
     pub fn file_with(&self, alloc: Global, fresh: &Fresh) -> Result<Bytes, Memory>
         ensures file { IfOk result (λ b. (new : List Seen) × Behind self.now fresh.now b new) }
+    {
+        match &self.file {
+            Some(file) if fresh.by_key.is_empty() => {
+                let same = file.share()?;
+                Ok(same)
+            }
+            _ => self.put_together(alloc, fresh),
+        }
+    }
+
+    /// The same, written anew.
+    fn put_together(&self, alloc: Global, fresh: &Fresh) -> Result<Bytes, Memory>
+        ensures { IfOk result (λ b. (new : List Seen) × Behind self.now fresh.now b new) }
     {
         let mut out = Writer::new(alloc);
         out.byte(MARK)?;

@@ -4,7 +4,7 @@ ghost use Rattle.std.specs.Prelude.{◌≡◌, ◌≢◌, [], IfErr, IfOk, lengt
 ghost use Rattle.ciel_memo_file.specs.Entries.{entry_view};
 ghost use Rattle.ciel_memo_file.specs.File.{IsMemo, NoNext, file_bytes, key_bytes};
 ghost use Rattle.ciel_memo_file.specs.Refused.{IfBad};
-ghost use Rattle.ciel_memo_file.specs.Steps.{AddedSo, Goes, Placed, seen};
+ghost use Rattle.ciel_memo_file.specs.Steps.{AddedSo, EndsWith, Goes, Placed, seen};
 
 use crate::entry::Entry;
 use crate::next::next_entry;
@@ -12,7 +12,7 @@ use crate::refusal::MemoRefusal;
 use crate::write::MOST_OF_A_FILE;
 use ciel_memo_key::key::Key;
 use ciel_name::refusal::Decode;
-use sky_base::text::Memory;
+use sky_base::text::{Bytes, Memory};
 use std::alloc::Global;
 use std::collections::BTreeMap;
 
@@ -39,9 +39,11 @@ impl Gathered {
     pub fn next<'a>(
         &mut self,
         alloc: Global,
+        file: &Bytes,
         front: &'a [u8],
         at: usize,
     ) -> Result<&'a [u8], MemoRefusal>
+        requires stands { EndsWith file.now (length file.now) front.now }
         requires placed { Placed (seen self.old) self.old.places.entries }
         requires memo { IsMemo (file_bytes (seen self.old)) (seen self.old) }
         requires place { at ≡ length (file_bytes (seen self.old)) }
@@ -49,7 +51,7 @@ impl Gathered {
         ensures placed { IfOk result (λ _. Placed (seen self.new) self.new.places.entries) }
         ensures refused { IfErr result (λ e. IfBad e (λ p. (p ≡ at) × NoNext (seen self.old) front.now)) }
     {
-        let next = match next_entry(alloc, front, MOST_OF_A_FILE - at) {
+        let next = match next_entry(alloc, file, front, MOST_OF_A_FILE - at) {
             Ok(next) => next,
             Err(Decode::NotValue) => return Err(MemoRefusal::BadMemo { at: at as u64 }),
             Err(Decode::Memory) => return Err(MemoRefusal::Memory),

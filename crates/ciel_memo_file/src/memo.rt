@@ -25,6 +25,8 @@ pub struct Memo {
     // The keys in the order of their bytes, and the place of the entry of each.
     keys: Vec<Key>,
     order: Vec<usize>,
+    // The bytes of the file that was read, which entries and keys are parts of.
+    pub(crate) file: Option<Bytes>,
 }
 
 impl Drop for Memo {
@@ -33,6 +35,7 @@ impl Drop for Memo {
             entries: _,
             keys: _,
             order: _,
+            file: _,
         } = self;
     }
 }
@@ -50,7 +53,7 @@ impl Model for Memo {
 
     ghost view = { λ m. map entry_view m.entries.items };
 
-    ghost invariant = { λ m. Stands (map entry_view m.entries.items) m.keys.items m.order.items };
+    ghost invariant = { λ m. Stands (map entry_view m.entries.items) m.keys.items m.order.items m.file };
 }
 
 impl Memo {
@@ -62,13 +65,15 @@ impl Memo {
             entries: Vec::new(alloc),
             keys: Vec::new(alloc),
             order: Vec::new(alloc),
+            file: None,
         }
     }
 
     /// The entries of a file, with their keys in order.
-    pub(crate) fn of(alloc: Global, gathered: Gathered) -> Result<Memo, Memory>
+    pub(crate) fn of(alloc: Global, gathered: Gathered, file: Bytes) -> Result<Memo, Memory>
         requires memo { IsMemo (file_bytes (seen gathered)) (seen gathered) }
         requires placed { Placed (seen gathered) gathered.places.entries }
+        requires file { file ≡ file_bytes (seen gathered) }
         ensures same { IfOk result (λ m. m ≡ seen gathered) }
     {
         let Gathered { entries, places } = gathered;
@@ -86,6 +91,7 @@ impl Memo {
             entries,
             keys,
             order,
+            file: Some(file),
         })
     }
 

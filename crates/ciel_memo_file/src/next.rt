@@ -5,7 +5,7 @@ ghost use Rattle.ciel_name.specs.Spelled.{Refuses};
 ghost use Rattle.ciel_memo_key.specs.Keys.{block};
 ghost use Rattle.ciel_memo_file.specs.Entries.{entry_view};
 ghost use Rattle.ciel_memo_file.specs.File.{most_of_an_entry};
-ghost use Rattle.ciel_memo_file.specs.Steps.{NextRead, NoneWithin};
+ghost use Rattle.ciel_memo_file.specs.Steps.{EndsWith, NextRead, NoneWithin};
 
 use crate::entry::Entry;
 use crate::read_entry::read_entry;
@@ -24,19 +24,27 @@ pub struct Next<'a> {
     pub rest: &'a [u8],
 }
 
-/// The whole entry of at most `room` bytes that stands in front.
-pub fn next_entry<'a>(alloc: Global, front: &'a [u8], room: usize) -> Result<Next<'a>, Decode>
+/// The whole entry of at most `room` bytes that stands in front of what a file ends with.
+pub fn next_entry<'a>(
+    alloc: Global,
+    file: &Bytes,
+    front: &'a [u8],
+    room: usize,
+) -> Result<Next<'a>, Decode>
+    requires { EndsWith file.now (length file.now) front.now }
     ensures next { IfOk result (λ n. NextRead room front.now (entry_view n.entry) n.key n.rest.now) }
     ensures refused { IfErr result (λ e. Refuses e (NoneWithin room front.now)) }
 {
+    let at = file.as_slice().len() - front.len();
     let most = front.len().min(room).min(MOST_OF_AN_ENTRY);
     let mut reader = Reader::new(&front[..most]);
-    let entry = match read_entry(alloc, &mut reader) {
+    let entry = match read_entry(alloc, file, at + most, &mut reader) {
         Ok(entry) => entry,
         Err(refusal) => return Err(refusal),
     };
-    let key = entry.key(alloc)?;
-    let length = key.as_slice().len() + blocks_length(entry.made.as_slice());
+    let length = most - reader.len();
+    let key_length = length - blocks_length(entry.made.as_slice());
+    let key = Key::of(file.part(at, at + key_length)?);
     Ok(Next {
         entry,
         key,

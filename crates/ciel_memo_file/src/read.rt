@@ -9,6 +9,7 @@ use crate::gathered::Gathered;
 use crate::memo::Memo;
 use crate::refusal::MemoRefusal;
 use crate::write::{FORM, MARK};
+use sky_base::text::Bytes;
 use std::alloc::Global;
 
 impl Memo {
@@ -16,19 +17,20 @@ impl Memo {
     ///
     /// Answers `BadMemo` exactly where they aren't such a file: they begin with other bytes than `4D 01`, or behind whole entries something
     /// stands that is no next one. Answers `Memory` for want of memory. An entry is read from no more bytes than it may have, and what a count
-    /// promises takes no memory before it is there.
-    pub fn read(alloc: Global, bytes: &[u8]) -> Result<Memo, MemoRefusal>
-        ensures memo { IfOk result (λ m. IsMemo bytes.now m) }
-        ensures refused { IfErr result (λ e. IfBad e (λ at. BadAt bytes.now at)) }
+    /// promises takes no memory before it is there. No input or output is copied: the memo shares the file's bytes.
+    pub fn read(alloc: Global, file: &Bytes) -> Result<Memo, MemoRefusal>
+        ensures memo { IfOk result (λ m. IsMemo file.now m) }
+        ensures refused { IfErr result (λ e. IfBad e (λ at. BadAt file.now at)) }
     {
-        let Some(rest) = behind_start(bytes) else {
+        let Some(rest) = behind_start(file.as_slice()) else {
             return Err(MemoRefusal::BadMemo { at: 0 });
         };
-        let gathered = match gather(alloc, rest) {
+        let gathered = match gather(alloc, file, rest) {
             Ok(gathered) => gathered,
             Err(refusal) => return Err(refusal),
         };
-        Ok(Memo::of(alloc, gathered)?)
+        let shared = file.share()?;
+        Ok(Memo::of(alloc, gathered, shared)?)
     }
 }
 
@@ -45,7 +47,8 @@ fn behind_start(bytes: &[u8]) -> Option<&[u8]>
 }
 
 /// The entries behind the two first bytes of a file.
-fn gather(alloc: Global, rest: &[u8]) -> Result<Gathered, MemoRefusal>
+fn gather(alloc: Global, file: &Bytes, rest: &[u8]) -> Result<Gathered, MemoRefusal>
+    requires { file.now ≡ 77 ∷ 1 ∷ rest.now }
     ensures memo { IfOk result (λ g. IsMemo (77 ∷ 1 ∷ rest.now) (seen g)) }
     ensures placed { IfOk result (λ g. Placed (seen g) g.places.entries) }
     ensures refused { IfErr result (λ e. IfBad e (λ at. BadEntry (77 ∷ 1 ∷ rest.now) at)) }
@@ -54,7 +57,7 @@ fn gather(alloc: Global, rest: &[u8]) -> Result<Gathered, MemoRefusal>
     let mut left = rest;
     while !left.is_empty() {
         let at = 2 + (rest.len() - left.len());
-        left = match gathered.next(alloc, left, at) {
+        left = match gathered.next(alloc, file, left, at) {
             Ok(left) => left,
             Err(refusal) => return Err(refusal),
         };

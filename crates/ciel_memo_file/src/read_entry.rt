@@ -1,4 +1,5 @@
-//! One entry that is read from the start of bytes. No room is made for a count before what it counts is there.
+//! One entry that is read from a file: its inputs and outputs are parts of the file's bytes, none of which is copied. No room is made for a count
+//! before what it counts is there. `end` is where the bytes end that a reader has.
 
 ghost use Rattle.std.specs.Prelude.{IfErr, IfOk};
 ghost use Rattle.sky_base.specs.Name.{bytes};
@@ -9,6 +10,7 @@ ghost use Rattle.ciel_name.specs.Spelled.{IsData, Refuses};
 ghost use Rattle.ciel_memo_key.specs.Keys.{block};
 ghost use Rattle.ciel_memo_file.specs.Entries.{entry_view};
 ghost use Rattle.ciel_memo_file.specs.File.{IsBlock, IsSpelled, entry_bytes};
+ghost use Rattle.ciel_memo_file.specs.Steps.{EndsWith};
 
 use crate::entry::Entry;
 use ciel_name::read::{read_text, read_value};
@@ -19,7 +21,13 @@ use sky_base::value::{MOST_DEPTH, MOST_SIZE, Value};
 use std::alloc::Global;
 
 /// An entry: its executor, arguments, number of outputs, inputs and outputs.
-pub fn read_entry(alloc: Global, reader: &mut Reader) -> Result<Entry, Decode>
+pub fn read_entry(
+    alloc: Global,
+    file: &Bytes,
+    end: usize,
+    reader: &mut Reader,
+) -> Result<Entry, Decode>
+    requires { EndsWith file.now end reader.old }
     ensures entry { IfOk result (λ e. ReadAs entry_bytes IsSpelled reader.old (entry_view e) reader.new) }
     ensures refused { IfErr result (λ e. Refuses e (NoneAs entry_bytes IsSpelled reader.old)) }
 {
@@ -34,11 +42,11 @@ pub fn read_entry(alloc: Global, reader: &mut Reader) -> Result<Entry, Decode>
     let Some(outputs) = reader.number() else {
         return Err(Decode::NotValue);
     };
-    let inputs = match read_inputs(alloc, reader) {
+    let inputs = match read_inputs(alloc, file, end, reader) {
         Ok(inputs) => inputs,
         Err(refusal) => return Err(refusal),
     };
-    let made = match read_blocks(alloc, reader, outputs) {
+    let made = match read_blocks(alloc, file, end, reader, outputs) {
         Ok(made) => made,
         Err(refusal) => return Err(refusal),
     };
@@ -62,27 +70,40 @@ fn read_args(alloc: Global, reader: &mut Reader) -> Result<Value, Decode>
 }
 
 /// Blocks behind their number.
-fn read_inputs(alloc: Global, reader: &mut Reader) -> Result<Vec<Bytes>, Decode>
+fn read_inputs(
+    alloc: Global,
+    file: &Bytes,
+    end: usize,
+    reader: &mut Reader,
+) -> Result<Vec<Bytes>, Decode>
+    requires { EndsWith file.now end reader.old }
     ensures blocks { IfOk result (λ bs. ReadAs (counted block) (Counted IsBlock) reader.old bs.items reader.new) }
     ensures refused { IfErr result (λ e. Refuses e (NoneAs (counted block) (Counted IsBlock) reader.old)) }
 {
     let Some(count) = reader.number() else {
         return Err(Decode::NotValue);
     };
-    match read_blocks(alloc, reader, count) {
+    match read_blocks(alloc, file, end, reader, count) {
         Ok(blocks) => Ok(blocks),
         Err(refusal) => Err(refusal),
     }
 }
 
 /// So many blocks, one behind the other.
-fn read_blocks(alloc: Global, reader: &mut Reader, count: u32) -> Result<Vec<Bytes>, Decode>
+fn read_blocks(
+    alloc: Global,
+    file: &Bytes,
+    end: usize,
+    reader: &mut Reader,
+    count: u32,
+) -> Result<Vec<Bytes>, Decode>
+    requires { EndsWith file.now end reader.old }
     ensures blocks { IfOk result (λ bs. ListRead block IsBlock count reader.old bs.items reader.new) }
     ensures refused { IfErr result (λ e. Refuses e (NoList block IsBlock count reader.old)) }
 {
     let mut blocks = Vec::new(alloc);
     for _one in 0..count {
-        let block = match read_block(alloc, reader) {
+        let block = match read_block(file, end, reader) {
             Ok(block) => block,
             Err(refusal) => return Err(refusal),
         };
@@ -94,7 +115,8 @@ fn read_blocks(alloc: Global, reader: &mut Reader, count: u32) -> Result<Vec<Byt
 }
 
 /// Bytes behind their number.
-fn read_block(alloc: Global, reader: &mut Reader) -> Result<Bytes, Decode>
+fn read_block(file: &Bytes, end: usize, reader: &mut Reader) -> Result<Bytes, Decode>
+    requires { EndsWith file.now end reader.old }
     ensures block { IfOk result (λ b. ReadAs block IsBlock reader.old b reader.new) }
     ensures refused { IfErr result (λ e. Refuses e (NoneAs block IsBlock reader.old)) }
 {
@@ -104,8 +126,6 @@ fn read_block(alloc: Global, reader: &mut Reader) -> Result<Bytes, Decode>
     let Some(held) = reader.bytes(count as usize) else {
         return Err(Decode::NotValue);
     };
-    let Ok(bytes) = Vec::from_slice(alloc, held) else {
-        return Err(Decode::Memory);
-    };
-    Ok(Bytes::new(alloc, bytes)?)
+    let to = end - reader.len();
+    Ok(file.part(to - held.len(), to)?)
 }

@@ -51,6 +51,13 @@ impl Key {
         Ok(Key { held })
     }
 
+    /// The key whose bytes these are. None is copied.
+    pub fn of(held: Bytes) -> Key
+        ensures bytes { result ≡ held }
+    {
+        Key { held }
+    }
+
     /// The bytes themselves.
     pub fn as_slice(&self) -> &[u8]
         ensures bytes { result.now ≡ self.now }

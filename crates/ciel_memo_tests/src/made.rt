@@ -5,7 +5,7 @@ use ciel_memo_file::refusal::MemoRefusal;
 use line_kit_tests::calls::{Arg, bytes_of, dictionary};
 use sky_base::fault::FaultKind;
 use sky_base::kit::Kit;
-use sky_base::text::Txt;
+use sky_base::text::{Bytes, Txt};
 use std::alloc::Global;
 use std::test::Fail;
 
@@ -31,7 +31,8 @@ pub fn file(alloc: Global, entries: &[&[u8]]) -> Result<Vec<u8>, Fail> {
 
 /// The place of the bad entry of a file, and none where it is a memo's.
 pub fn bad(alloc: Global, bytes: &[u8]) -> Result<Option<u64>, Fail> {
-    match Memo::read(alloc, bytes) {
+    let held = Bytes::new(alloc, Vec::from_slice(alloc, bytes)?)?;
+    match Memo::read(alloc, &held) {
         Ok(_) => Ok(None),
         Err(MemoRefusal::BadMemo { at }) => Ok(Some(at)),
         Err(MemoRefusal::Memory) => Err(Fail::from("memory")),
@@ -40,7 +41,8 @@ pub fn bad(alloc: Global, bytes: &[u8]) -> Result<Option<u64>, Fail> {
 
 /// The memo of a file.
 pub fn memo(alloc: Global, bytes: &[u8]) -> Result<Memo, Fail> {
-    match Memo::read(alloc, bytes) {
+    let held = Bytes::new(alloc, Vec::from_slice(alloc, bytes)?)?;
+    match Memo::read(alloc, &held) {
         Ok(memo) => Ok(memo),
         Err(_) => Err(Fail::from("no memo")),
     }

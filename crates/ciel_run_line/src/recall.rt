@@ -70,7 +70,7 @@ fn memo_in(alloc: Global, path: &Option<Txt>, bytes: &Bytes) -> Result<Memo, Why
     ensures memo { IfOk result (λ m. IsMemo bytes.now m) }
     ensures bad { IfErr result (IfBadHere path.now (BadAt bytes.now)) }
 {
-    match Memo::read(alloc, bytes.as_slice()) {
+    match Memo::read(alloc, bytes) {
         Ok(memo) => Ok(memo),
         Err(MemoRefusal::BadMemo { at }) => Err(bad_memo(path, at)),
         Err(MemoRefusal::Memory) => Err(Why::Memory),

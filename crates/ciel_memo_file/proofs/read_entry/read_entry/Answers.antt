@@ -1,9 +1,30 @@
 -- Where a part is lacking behind those that were read, no entry stands there.
 use Rattle.std.proofs.Common.{arith}
+use Rattle.sky_base.specs.Name.{big_endian, bytes, bytes_of_text}
 use Rattle.sky_base.specs.View.{view}
+use Rattle.sky_frozen_bytes.specs.Bytes.{counted}
+use Rattle.ciel_memo_key.specs.Keys.{block}
 use Rattle.ciel_name.proofs.DecodeSteps.{refuses_more}
+use Rattle.ciel_memo_file.proofs.Ends.{behind}
 use Rattle.ciel_memo_file.proofs.Spelling.{entry_read, no_args, no_inputs, no_made, no_number, no_text}
 use Rattle.ciel_memo_file.proofs.read_entry.read_entry.Goals as goal
+
+pub read_inputs-requires : goal.read_inputs-requires
+read_inputs-requires c =
+    let file = c.args.file.now in
+    let end = c.args.end in
+    let text = behind file end c.args.reader.now (bytes_of_text c.in-Ok.executor) c.read_text.new.reader c.requires c.in-Ok.ensures.text.0 in
+    let args = behind file end c.read_text.new.reader (bytes (view c.in-Ok-read_args.args)) c.read_args.new.reader text c.in-Ok-read_args.ensures.value.0 in
+    behind file end c.read_args.new.reader (big_endian 4 c.in-Some.outputs) c.number.new.self args c.in-Some.ensures
+
+pub read_blocks-requires : goal.read_blocks-requires
+read_blocks-requires c =
+    let file = c.args.file.now in
+    let end = c.args.end in
+    let text = behind file end c.args.reader.now (bytes_of_text c.in-Ok.executor) c.read_text.new.reader c.requires c.in-Ok.ensures.text.0 in
+    let args = behind file end c.read_text.new.reader (bytes (view c.in-Ok-read_args.args)) c.read_args.new.reader text c.in-Ok-read_args.ensures.value.0 in
+    let number = behind file end c.read_args.new.reader (big_endian 4 c.in-Some.outputs) c.number.new.self args c.in-Some.ensures in
+    behind file end c.number.new.self (counted block c.in-Ok-read_inputs.inputs.items) c.read_inputs.new.reader number c.in-Ok-read_inputs.ensures.blocks.0
 
 pub returns-in-Err-clause-refused : goal.returns-in-Err-clause-refused
 returns-in-Err-clause-refused c = refuses_more c.in-Err.refusal (no_text c.args.reader.now) c.in-Err.ensures.refused

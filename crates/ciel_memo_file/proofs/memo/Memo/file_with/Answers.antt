@@ -1,29 +1,20 @@
--- The next of the new ones is put behind those so far, or left out.
-use Rattle.std.proofs.Common.{◌≡◌, ◌∷◌, ◌++◌, [], ℕ, List, flat_map, ap, sym, ◌∙◌, subst}
-use Rattle.ciel_memo_file.specs.Added.{Keyed}
-use Rattle.ciel_memo_file.specs.Entries.{Entry}
-use Rattle.ciel_memo_file.specs.File.{entry_bytes, file_bytes}
-use Rattle.ciel_memo_file.proofs.Added.{Grown, grown_more, grown_none}
+-- Where nothing is new, the file that was read has the memo's entries and no others.
+use Rattle.std.proofs.Common.{rules, ◌≡◌, [], ℕ, List, Option, IfSome, ap, arith, length, map, subst, sym, ◌∙◌}
+use Rattle.std.proofs.lemmas.List.{nil_from_length}
+use Rattle.ciel_memo_file.specs.Added.{entries_of}
+use Rattle.ciel_memo_file.specs.Entries.{Entry, entry_view}
+use Rattle.ciel_memo_file.specs.File.{IsMemo, file_bytes}
+use Rattle.ciel_memo_file.proofs.Added.{nothing_new}
 use Rattle.ciel_memo_file.proofs.memo.Memo.file_with.Goals as goal
 
-pub loop-key-init : goal.loop-key-init
-loop-key-init c =
+pub returns-in_ok-same-in-Some : goal.returns-in_ok-same-in-Some
+returns-in_ok-same-in-Some c =
     let memo = c.args.self.now in
-    let ps = c.fresh.inside.by_key.entries in
-    let text : c.put.new.out ≡ file_bytes memo = c.in_ok-put.ensures.bytes
-    ∙ ap (λ (b : List ℕ). b ++ flat_map entry_bytes memo) (c.in_ok-byte-2.ensures
-    ∙ ap (λ (b : List ℕ). b ++ 1 ∷ []) (c.in_ok-byte.ensures ∙ ap (λ (b : List ℕ). b ++ 77 ∷ []) c.new-out.ensures)) in
-    let start = grown_none memo ps c.put.new.out c.in_ok-put.ensures.memo text c.into_iter-key-iterator.ensures.into_iter_gives.5
-    c.fresh.invariant in
-    subst (λ (rest : List Keyed). Grown memo c.args.fresh.now rest c.put.new.out)
-    (sym c.into_iter-key-iterator.ensures.into_iter_gives.0)
-    (subst (λ (all : List Entry). Grown memo all ps c.put.new.out) c.fresh.view_is start)
-
-pub loop-key-preserved : goal.loop-key-preserved
-loop-key-preserved c =
-    let memo = c.args.self.now in
-    let all = c.args.fresh.now in
-    let p : Keyed = (c.in-Some._key.now, c.in-Some.entry.now) in
-    let here : Grown memo all (p ∷ c.next.new.self) c.loop-key.out =
-    subst (λ (rest : List Keyed). Grown memo all rest c.loop-key.out) c.in-Some.ensures.steps c.loop-key.invariant in
-    grown_more memo all p c.next.new.self c.loop-key.out c.put_next.new.out here c.in_ok-put_next.ensures
+    let zero : length c.fresh.inside.by_key.entries ≡ 0 = search rules in
+    let new : c.args.fresh.now ≡ [] = sym c.fresh.view_is ∙ ap entries_of (nil_from_length c.fresh.inside.by_key.entries zero) in
+    let whole : IsMemo (file_bytes memo) memo = subst (λ (es : List Entry). IsMemo (file_bytes es) es) c.self.view_is c.self.invariant.memo in
+    let here : c.in-Some.file ≡ file_bytes (map entry_view c.self.inside.entries.items) =
+    subst (λ (o : Option (List ℕ)). IfSome o (λ bytes. bytes ≡ file_bytes (map entry_view c.self.inside.entries.items))) c.in-Some.is c.self.invariant.file in
+    let bytes : c.in_ok-same-in-Some.same ≡ file_bytes memo =
+    c.in_ok-same-in-Some.ensures ∙ here ∙ ap file_bytes c.self.view_is in
+    record { file = ([], nothing_new memo c.args.fresh.now c.in_ok-same-in-Some.same new whole bytes) }
