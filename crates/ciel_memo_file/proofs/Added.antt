@@ -24,7 +24,7 @@ use Rattle.ciel_memo_file.specs.declared.entry.Entry.{Entry as Held}
 use Rattle.ciel_memo_file.specs.Added.{Behind, HasNoRoom, IsKeyed, IsNew, Keyed, Puts, entries_of, made_by}
 use Rattle.ciel_memo_file.specs.Added.Puts.{put, left}
 use Rattle.ciel_memo_file.specs.Entries.{Entry, entry_view, has_key}
-use Rattle.ciel_memo_file.specs.File.{IsBlock, IsMemo, IsSpelled, IsWhole, entry_bytes, file_bytes, key_bytes, most_of_an_entry}
+use Rattle.ciel_memo_file.specs.File.{IsBlock, IsMemo, IsWhole, entry_bytes, file_bytes, key_bytes, most_of_an_entry}
 use Rattle.ciel_memo_file.proofs.Files.{each_push, file_push, in_front, one_more}
 use Rattle.ciel_memo_file.proofs.Keys.{has_bytes, same_has}
 use Rattle.ciel_memo_file.proofs.Spelling.{one_key}

@@ -1,5 +1,5 @@
 -- What the steps of reading a file say.
-use Rattle.std.specs.Prelude.{◌≡◌, ◌<◌, ◌≤◌, ◌⊎◌, ℕ, List, [], ◌∷◌, ◌++◌, Bool, true, false, length, map, take}
+use Rattle.std.specs.Prelude.{◌≡◌, ◌<◌, ◌≤◌, ◌⊎◌, ℕ, List, [], ◌∷◌, ◌++◌, ◌&&◌, ◌==◌, Bool, true, false, length, map, take}
 use Rattle.sky_base_law.specs.Tasks.{Each, In}
 use Rattle.ciel_memo_file.specs.declared.gathered.Gathered.{Gathered}
 use Rattle.ciel_memo_file.specs.Entries.{Entry, entry_view}
@@ -26,6 +26,15 @@ pub record NextRead (room : ℕ) (front : List ℕ) (e : Entry) (k rest : List �
 -- no such one does
 abbrev pub NoneWithin : ℕ → List ℕ → Type 0
 NoneWithin room front = (e : Entry) (more : List ℕ) → IsWhole e → length (entry_bytes e) ≤ room → front ≡ entry_bytes e ++ more → ⊥
+
+-- ---- inputs beside those of a question
+
+-- each is as long as the one at its place
+abbrev pub same_lengths : List (List ℕ) → List (List ℕ) → Bool
+same_lengths [] [] = true
+same_lengths (a ∷ xs) (b ∷ ys) = length a == length b && same_lengths xs ys
+same_lengths [] (b ∷ ys) = false
+same_lengths (a ∷ xs) [] = false
 
 -- ---- the entries so far
 

@@ -2,10 +2,11 @@
 
 ghost use Rattle.std.specs.Prelude.{◌≡◌, ◌++◌, [], None, Some, IfOk, MatchOption, flat_map, map};
 ghost use Rattle.sky_base.specs.View.{view};
-ghost use Rattle.ciel_memo_file.specs.Entries.{entry_view, has_key, made_for, same_lists};
-ghost use Rattle.ciel_memo_file.specs.File.{IsMemo, entry_bytes, file_bytes};
+ghost use Rattle.ciel_memo_key.specs.Keys.{key_of};
+ghost use Rattle.ciel_memo_file.specs.Entries.{entry_view, has_key, made_for};
+ghost use Rattle.ciel_memo_file.specs.File.{IsMemo, entry_bytes, file_bytes, key_bytes};
 ghost use Rattle.ciel_memo_file.specs.Ordered.{Ordered};
-ghost use Rattle.ciel_memo_file.specs.Steps.{Placed, seen};
+ghost use Rattle.ciel_memo_file.specs.Steps.{Placed, same_lengths, seen};
 
 use crate::entry::Entry;
 use crate::gathered::Gathered;
@@ -128,29 +129,32 @@ impl Memo {
     }
 }
 
-/// Whether these are the same bytes, list by list.
+/// Whether the bytes of each list are as long as those at its place in the other.
 #[tactic(auto, using(crate::proofs::Keys::uneven))]
-fn are_same(a: &[Bytes], b: &[Bytes]) -> bool
-    ensures { result ≡ same_lists a.now b.now }
+fn are_as_long(a: &[Bytes], b: &[Bytes]) -> bool
+    ensures { result ≡ same_lengths a.now b.now }
 {
     if a.len() != b.len() {
         return false;
     }
     for (i, bytes) in a.iter().enumerate() {
-        if bytes.as_slice().cmp(b[i].as_slice()).is_ne() {
+        if bytes.as_slice().len() != b[i].as_slice().len() {
             return false;
         }
     }
     true
 }
 
-/// Whether this is the key of an entry.
+/// Whether an entry whose key has the bytes of this one has this key. The bytes of its inputs are these where their lengths are.
 fn has_key(entry: &Entry, executor: &Txt, args: &Value, inputs: &[Bytes], outputs: u32) -> bool
+    requires { key_bytes (entry_view entry.now) ≡ key_of executor.now (view args.now) inputs.now outputs }
     ensures { result ≡ has_key executor.now (view args.now) inputs.now outputs (entry_view entry.now) }
 {
+    if !are_as_long(entry.inputs.as_slice(), inputs) {
+        return false;
+    }
     entry.executor == *executor
         && is_same(&entry.args, args)
-        && are_same(entry.inputs.as_slice(), inputs)
         && entry.made.len() == outputs as usize
 }
 

@@ -1,5 +1,5 @@
 -- What was read is data, and it is what was written.
-use Rattle.std.proofs.Common.{ap, sym, ◌∙◌}
+use Rattle.std.proofs.Common.{sym, ◌∙◌}
 use Rattle.ciel_memo_file.proofs.Added.{read_again, same_args}
 use Rattle.ciel_memo_file.proofs.fresh.is_readable.Goals as goal
 

@@ -2,6 +2,7 @@
 use Rattle.std.proofs.Common.{◌<◌, Some, length, map, sym, ◌∙◌, ap, arith}
 use Rattle.sky_base.specs.View.{view}
 use Rattle.ciel_memo_file.specs.Entries.{Entry, entry_view}
+use Rattle.ciel_memo_file.specs.File.{key_bytes}
 use Rattle.ciel_memo_file.specs.Ordered.{place_at}
 use Rattle.ciel_memo_file.proofs.Finding.{entry_read, found, has, length_views, none_found, not_found}
 use Rattle.ciel_memo_file.proofs.memo.find_in.Goals as goal
@@ -10,6 +11,19 @@ pub returns-in_default : goal.returns-in_default
 returns-in_default c =
     none_found c.args.executor.now (view c.args.args.now) c.args.inputs.now c.args.outputs (map entry_view c.args.entries.now) c.args.keys.now
     c.args.order.now c.requires c.in_default.ensures.place
+
+pub has_key-requires : goal.has_key-requires
+has_key-requires c =
+    let es = map entry_view c.args.entries.now in
+    let f = c.in-Some.ensures.place in
+    let l : c.in-Some.at < length c.args.keys.now = omega (arith, f.0) in
+    let small : place_at c.args.order.now c.in-Some.at < length c.args.entries.now = omega (
+      arith,
+      c.requires.within c.in-Some.at l,
+      length_views c.args.entries.now,
+    ) in
+    let here = entry_read c.args.entries.now (place_at c.args.order.now c.in-Some.at) c.index-entries-place.result small c.index-entries-place.is in
+    ap key_bytes (sym here) ∙ sym (c.requires.here c.in-Some.at l) ∙ f.1
 
 pub returns-then-has_key : goal.returns-then-has_key
 returns-then-has_key c =

@@ -1,5 +1,5 @@
 -- Where nothing is new, the file that was read has the memo's entries and no others.
-use Rattle.std.proofs.Common.{rules, ◌≡◌, [], ℕ, List, Option, IfSome, ap, arith, length, map, subst, sym, ◌∙◌}
+use Rattle.std.proofs.Common.{rules, ◌≡◌, [], ℕ, List, Option, IfSome, ap, length, map, subst, sym, ◌∙◌}
 use Rattle.std.proofs.lemmas.List.{nil_from_length}
 use Rattle.ciel_memo_file.specs.Added.{entries_of}
 use Rattle.ciel_memo_file.specs.Entries.{Entry, entry_view}
