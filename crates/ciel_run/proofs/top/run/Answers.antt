@@ -1,5 +1,5 @@
 -- What was written has no other cause, and what wasn't has that of its job.
-use Rattle.std.proofs.Common.{◌≡◌, ◌≢◌, ◌≤◌, ◌⊎◌, ◌∙◌, inr, ℕ, List, [], Err, Ok, Some, length, map, subst, sym}
+use Rattle.std.proofs.Common.{rules, ◌≡◌, ◌≢◌, ◌≤◌, ◌⊎◌, ◌∙◌, inl, inr, ℕ, List, [], Err, Ok, Some, length, map, subst, sym}
 use Rattle.std.specs.Prelude.{IfErr, IfOk, Result}
 use Rattle.sky_base.specs.See as s
 use Rattle.sky_base.specs.See.{Answered}
@@ -423,3 +423,11 @@ returns-in-Err-clause-keep_never_falls g c = λ ends.
     } in
     let keeps = subst (λ (r : Result (List ℕ) Why). KeepsLog (log_path line) before now r state) c.in-Err.is c.answer_line-answered.ensures.keeps in
     end_falls (log_path line) before now c.in-Err.why state keeps (subst (λ (r : Ended). EndsJob r.why) c.ended-in-Err.ensures ends)
+
+pub returns-in-Ok-clause-answer_first : goal.returns-in-Ok-clause-answer_first
+returns-in-Ok-clause-answer_first g c = λ e.
+    let same : c.finish-why.result ≡ Why.WriteFault = search rules in
+    elim (c.finish-why.ensures.answer_first same) [
+      | inl h ↦ inl h
+      | inr t ↦ inr (search rules)
+    ]
