@@ -140,23 +140,83 @@ impl AsStr for Txt {
     }
 }
 
-/// Bytes, which several owners may share, or a part of such. Contracts see them as a list.
+/// A part of shared bytes. Bytes are one, and have no other field, so that who holds bytes sees their list alone.
 #[derive(Drop)]
-pub struct Bytes {
+struct Part {
     held: Arc<Vec<u8>, Global>,
     from: usize,
     to: usize,
 }
 
-impl Model for Bytes {
+impl Model for Part {
     ghost use Rattle.std.specs.Prelude.{List, ℕ, ◌≤◌, length, slice_range};
     ghost use Rattle.std.specs.Arc.{arc_value};
 
     ghost Value = { List ℕ };
 
-    ghost view = { λ b. slice_range (arc_value b.held).items b.from b.to };
+    ghost view = { λ p. slice_range (arc_value p.held).items p.from p.to };
 
-    ghost invariant = { λ b. (b.from ≤ b.to) × (b.to ≤ length (arc_value b.held).items) };
+    ghost invariant = { λ p. (p.from ≤ p.to) × (p.to ≤ length (arc_value p.held).items) };
+}
+
+impl Part {
+    fn new(alloc: Global, bytes: Vec<u8>) -> Result<Part, Memory>
+        ensures { IfOk result (λ p. p ≡ bytes.items) }
+    {
+        let to = bytes.len();
+        match Arc::new(alloc, bytes) {
+            Ok(held) => Ok(Part { held, from: 0, to }),
+            Err(_) => Err(Memory),
+        }
+    }
+
+    fn part(&self, from: usize, to: usize) -> Result<Part, Memory>
+        requires order { from ≤ to }
+        requires bound { to ≤ length self.now }
+        ensures part { IfOk result (λ p. p ≡ slice_range self.now from to) }
+    {
+        match Arc::try_clone(&self.held) {
+            Ok(held) => Ok(Part {
+                held,
+                from: self.from + from,
+                to: self.from + to,
+            }),
+            Err(_) => Err(Memory),
+        }
+    }
+
+    fn share(&self) -> Result<Part, Memory>
+        ensures { IfOk result (λ p. p ≡ self.now) }
+    {
+        match Arc::try_clone(&self.held) {
+            Ok(held) => Ok(Part {
+                held,
+                from: self.from,
+                to: self.to,
+            }),
+            Err(_) => Err(Memory),
+        }
+    }
+
+    fn as_slice(&self) -> &[u8]
+        ensures { result.now ≡ self.now }
+    {
+        &self.held.as_slice()[self.from..self.to]
+    }
+}
+
+/// Bytes, which several owners may share, or a part of such. Contracts see them as a list.
+#[derive(Drop)]
+pub struct Bytes {
+    held: Part,
+}
+
+impl Model for Bytes {
+    ghost use Rattle.std.specs.Prelude.{List, ℕ};
+
+    ghost Value = { List ℕ };
+
+    ghost view = { λ b. b.held };
 }
 
 impl Bytes {
@@ -164,25 +224,16 @@ impl Bytes {
     pub fn new(alloc: Global, bytes: Vec<u8>) -> Result<Bytes, Memory>
         ensures { IfOk result (λ b. b ≡ bytes.items) }
     {
-        let to = bytes.len();
-        match Arc::new(alloc, bytes) {
-            Ok(held) => Ok(Bytes { held, from: 0, to }),
-            Err(_) => Err(Memory),
-        }
+        let held = Part::new(alloc, bytes)?;
+        Ok(Bytes { held })
     }
 
     /// A second owner of the same bytes, in constant time.
     pub fn share(&self) -> Result<Bytes, Memory>
         ensures { IfOk result (λ b. b ≡ self.now) }
     {
-        match Arc::try_clone(&self.held) {
-            Ok(held) => Ok(Bytes {
-                held,
-                from: self.from,
-                to: self.to,
-            }),
-            Err(_) => Err(Memory),
-        }
+        let held = self.held.share()?;
+        Ok(Bytes { held })
     }
 
     /// The bytes from one place up to another, in constant time: none is copied. As long as the part has an owner, the memory of all the bytes is
@@ -192,20 +243,14 @@ impl Bytes {
         requires bound { to ≤ length self.now }
         ensures part { IfOk result (λ b. b ≡ slice_range self.now from to) }
     {
-        match Arc::try_clone(&self.held) {
-            Ok(held) => Ok(Bytes {
-                held,
-                from: self.from + from,
-                to: self.from + to,
-            }),
-            Err(_) => Err(Memory),
-        }
+        let held = self.held.part(from, to)?;
+        Ok(Bytes { held })
     }
 
     /// The bytes themselves.
     pub fn as_slice(&self) -> &[u8]
         ensures { result.now ≡ self.now }
     {
-        &self.held.as_slice()[self.from..self.to]
+        self.held.as_slice()
     }
 }

@@ -1,7 +1,7 @@
 use Rattle.std.proofs.Common.{◌≡◌, ◌+◌, ◌-◌, ◌≤◌, ℕ, List, arith, rules, sym, ap, ◌∙◌, drop, take, length, slice_range}
 use Rattle.std.proofs.lemmas.List.{drop-drop, take-take, length-drop, length-take-le}
 use Rattle.std.proofs.lemmas.Slice.{between_is}
-use Rattle.sky_base.proofs.text.Bytes.part.Goals as goal
+use Rattle.sky_base.proofs.text.Part.part.Goals as goal
 
 -- a part of a part is a part of the list
 part_of_part : (xs : List ℕ) (s e a b : ℕ) → a ≤ b → s + b ≤ e → slice_range (slice_range xs s e) a b ≡ slice_range xs (s + a) (s + b)
