@@ -2,3 +2,4 @@ mod DrawerLaw
 pub mod Joined
 mod Limits
 pub mod RowsLaw
+mod Taken

@@ -1,9 +1,10 @@
 // Real files that are kept: the trusted edge, which tells nothing. What is proved of it is that each refusal is counted.
 
-ghost use Rattle.std.specs.Prelude.{◌≡◌, None};
+ghost use Rattle.std.specs.Prelude.{◌≡◌, ◌≤◌, None, IfOk, IfSome, length};
 
 use crate::keep::Keep;
 use crate::sink::Failed;
+use crate::standing::standing;
 use sky_base::text::Txt;
 use std::fs::OpenOptions;
 use std::io::Write;
@@ -50,6 +51,30 @@ impl<R: rt::Files> HostKeep<R> {
         }
     }
 
+    // How many bytes of the piece the file at a path has already, where it has nothing else. A pipe or a device isn't read.
+    fn length_standing(&self, path: &Txt, piece: &[u8]) -> io::Result<Option<usize>>
+        ensures { IfOk result (λ o. IfSome o (λ n. n ≤ length piece.now)) }
+    {
+        let found = fs::metadata(&self.rt, path.as_str())?;
+        if found.is_file() && found.len() > 0 && found.len() <= piece.len() as u64 {
+            standing(fs::open(&self.rt, path.as_str())?, piece)
+        } else {
+            Ok(None)
+        }
+    }
+
+    // The piece, and nothing else, at a path. Where the piece begins with the file that is there, the rest is put behind it, and no byte is written
+    // anew: until that is done the file has no less than it had.
+    fn put_instead(&self, path: &Txt, piece: &[u8]) -> io::Result<()> {
+        match self.length_standing(path, piece) {
+            Ok(Some(at)) => OpenOptions::new()
+                .append(true)
+                .open(&self.rt, path.as_str())?
+                .write_all(&piece[at..]),
+            _ => fs::write(&self.rt, path.as_str(), piece),
+        }
+    }
+
     // Where the piece isn't put there, no file is open any more.
     fn put_behind(&mut self, path: &Txt, piece: &[u8]) -> io::Result<()>
         ensures { self.new.faults ≡ self.old.faults }
@@ -82,7 +107,7 @@ impl<R: rt::Files> Keep for HostKeep<R> {
 
     fn replace(&mut self, path: &Txt, piece: &[u8]) -> Result<(), Failed> {
         self.opened = None;
-        match fs::write(&self.rt, path.as_str(), piece) {
+        match self.put_instead(path, piece) {
             Ok(()) => Ok(()),
             Err(_) => {
                 self.faults = self.faults.saturating_add(1);

@@ -18,3 +18,4 @@ mod room;
 mod rows;
 mod shelf;
 pub mod sink;
+mod standing;

@@ -89,9 +89,11 @@ fn kept_files_of_the_host(rt: HostRuntime) -> Result<(), Fail> {
         (".", true, "four", false),
         ("other", true, "five", true),
         ("other", true, "6", true),
+        ("other", true, "6 and 7", true),
+        ("other", true, "6 and 7", true),
     ];
-    assert_eq!(&rt; as_said(alloc, &mut keep, rows.as_slice())?, 6);
+    assert_eq!(&rt; as_said(alloc, &mut keep, rows.as_slice())?, 8);
     assert!(&rt; fs::read(&rt, "log")?.as_slice() == b"one two".as_slice());
-    assert!(&rt; fs::read(&rt, "other")?.as_slice() == b"6".as_slice());
+    assert!(&rt; fs::read(&rt, "other")?.as_slice() == b"6 and 7".as_slice());
     Ok(())
 }
