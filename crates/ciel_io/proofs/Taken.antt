@@ -1,8 +1,8 @@
 -- Bytes of a piece that were read one behind the other.
-use Rattle.std.proofs.Common.{◌≡◌, ◌+◌, ℕ, List, [], ◌++◌, take, drop, Option, Some, None, IfSome, ap, ◌∙◌, sym, refl, subst}
-use Rattle.std.specs.Io.KnownBytes.{Consumes, IsAtEnd}
+use Rattle.std.proofs.Common.{◌+◌, ℕ, List, ◌++◌, take, drop, Option, Some, None, ap, ◌∙◌, sym, subst}
+use Rattle.std.specs.Io.KnownBytes.{Consumes}
 use Rattle.std.proofs.Math.Seq.{take-add}
-use Rattle.std.proofs.lemmas.List.{append_assoc, append-nil}
+use Rattle.std.proofs.lemmas.List.{append_assoc}
 
 -- what a reader lost in two steps, together
 pub further : (a b c : Option (List ℕ)) (p q : List ℕ) → Consumes a b p → Consumes b c q → Consumes a c (p ++ q)
@@ -16,14 +16,3 @@ pub first_two : (a b c : Option (List ℕ)) (piece : List ℕ) (at n : ℕ) → 
     → Consumes a c (take (at + n) piece)
 first_two a b c piece at n one two =
     subst (λ (l : List ℕ). Consumes a c l) (sym (take-add at n piece)) (further a b c (take at piece) (take n (drop at piece)) one two)
-
--- nothing is lost at first
-pub nothing_lost : (a : Option (List ℕ)) → Consumes a a []
-nothing_lost None = tt
-nothing_lost (Some xs) = refl
-
--- of a reader that is at its end all was read
-pub all_lost : (a b : Option (List ℕ)) (p : List ℕ) → Consumes a b p → IsAtEnd b → IfSome a (λ left. left ≡ p)
-all_lost None b p read end = tt
-all_lost (Some xs) None p read end = absurd read
-all_lost (Some xs) (Some ys) p read end = read ∙ ap (λ (l : List ℕ). p ++ l) end ∙ append-nil p
