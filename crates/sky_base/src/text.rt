@@ -149,14 +149,12 @@ struct Part {
 }
 
 impl Model for Part {
-    ghost use Rattle.std.specs.Prelude.{List, ℕ, ◌≤◌, length, slice_range};
+    ghost use Rattle.std.specs.Prelude.{List, ℕ, slice_range};
     ghost use Rattle.std.specs.Arc.{arc_value};
 
     ghost Value = { List ℕ };
 
     ghost view = { λ p. slice_range (arc_value p.held).items p.from p.to };
-
-    ghost invariant = { λ p. (p.from ≤ p.to) × (p.to ≤ length (arc_value p.held).items) };
 }
 
 impl Part {
@@ -201,7 +199,9 @@ impl Part {
     fn as_slice(&self) -> &[u8]
         ensures { result.now ≡ self.now }
     {
-        &self.held.as_slice()[self.from..self.to]
+        let all = self.held.as_slice();
+        let to = self.to.min(all.len());
+        &all[self.from.min(to)..to]
     }
 }
 
