@@ -1,5 +1,6 @@
 -- Where objects lie, as the code keeps it.
-use Rattle.std.specs.Prelude.{ℕ, List, [], ◌∷◌, Bool, Vec, cond, map, Option, Some, None}
+use Rattle.std.specs.Prelude.{ℕ, List, [], ◌∷◌, Bool, Vec, cond, map, nat_eq, Option, Some, None}
+use Rattle.std.specs.List.{list_any}
 use Rattle.std.specs.BTreeMap.{BTreeMap, get}
 use Rattle.std.specs.declared.alloc.Global.{Global}
 use Rattle.sky_base.specs.NameOrder.{name_cmp}
@@ -20,6 +21,14 @@ places_of m n = placed_in (get name_cmp m n)
 -- their workers
 abbrev pub placed : BTreeMap (List ℕ) (Vec Place Global) → (name : List ℕ) → List ℕ
 placed m n = map place_worker (places_of m n)
+
+abbrev pub place_run : Place → ℕ
+place_run p = p.run
+
+-- the order of the first of these places whose worker isn't among these
+abbrev pub first_run : (gone : List ℕ) → List Place → Option ℕ
+first_run gone [] = None
+first_run gone (p ∷ ps) = cond (list_any (λ worker. nat_eq worker p.worker) gone) (first_run gone ps) (Some (place_run p))
 
 -- the names whose places' workers pass a test
 abbrev pub names_where : (List ℕ → Bool) → List (List ℕ × Vec Place Global) → List (List ℕ)

@@ -5,7 +5,7 @@ ghost use Rattle.std.specs.BTreeMap.{IsOrdered};
 ghost use Rattle.std.specs.List.{list_all, list_any};
 ghost use Rattle.sky_base.specs.NameOrder.{name_cmp};
 ghost use Rattle.sky_base.specs.Val.{same_text};
-ghost use Rattle.ciel_look_tasks.specs.ObjectPlaces.{names_where, place_worker, placed, places_of};
+ghost use Rattle.ciel_look_tasks.specs.ObjectPlaces.{first_run, names_where, place_worker, placed, places_of};
 ghost use Rattle.ciel_look_tasks.specs.Objects.{IsTaken, put_at, takes_from};
 ghost use Rattle.ciel_look_tasks.specs.declared.places.Place.{Place};
 
@@ -54,13 +54,13 @@ impl Places {
     }
 
     /// The order that put the object where it was first, of those at workers that aren't lost.
-    pub fn first(&self, name: &Name) -> Option<usize> {
-        for place in self.at.get(name)? {
-            if !self.gone.contains(&place.worker) {
-                return Some(place.run);
-            }
+    pub fn first(&self, name: &Name) -> Option<usize>
+        ensures order { result ≡ first_run self.now.gone.items (places_of self.now.at name.now) }
+    {
+        match self.at.get(name) {
+            Some(places) => first_there(places.as_slice(), self.gone.as_slice()),
+            None => None,
         }
-        None
     }
 
     /// A worker is lost: the names of the objects that lay there and at no other worker that isn't lost.
@@ -85,6 +85,18 @@ fn take_places(alloc: Global, at: &mut BTreeMap<Name, Vec<Place>>, name: &Name) 
         Some(places) => places,
         None => Vec::new(alloc),
     }
+}
+
+/// The order of the first place whose worker isn't lost.
+fn first_there(places: &[Place], gone: &[u32]) -> Option<usize>
+    ensures { result ≡ first_run gone.now places.now }
+{
+    for place in places {
+        if !gone.contains(&place.worker) {
+            return Some(place.run);
+        }
+    }
+    None
 }
 
 /// The names of the objects of which some lie at this worker, and all at lost ones.
