@@ -1,6 +1,7 @@
 //! How much of a piece stands in a file already.
 
-ghost use Rattle.std.specs.Prelude.{◌≡◌, ◌≤◌, ◌<◌, IfOk, IfSome, length, take};
+ghost use Rattle.std.specs.Prelude.{◌≡◌, ◌≤◌, ◌<◌, IfNone, IfOk, IfSome, length, take};
+ghost use Rattle.std.specs.Io.{StartsWith};
 ghost use Rattle.std.specs.Io.KnownBytes.{Consumes, IsAtEnd};
 
 use std::io;
@@ -16,6 +17,7 @@ const WINDOW: usize = 65_536;
 pub(crate) fn standing<R: Read + Drop>(reader: R, piece: &[u8]) -> io::Result<Option<usize>>
     ensures within { IfOk result (λ o. IfSome o (λ n. n ≤ length piece.now)) }
     ensures stands { IfOk result (λ o. IfSome o (λ n. IfSome (R.remaining reader) (λ left. left ≡ take n piece.now))) }
+    ensures differs { IfOk result (λ o. IfNone o (IfSome (R.remaining reader) (λ left. StartsWith piece.now left → ⊥))) }
 {
     let mut reader = reader;
     let mut window = [0u8; WINDOW];
@@ -39,6 +41,7 @@ fn next_standing<R: Read>(
     ensures within { IfOk result (λ o. IfSome o (λ n. n ≤ length rest.now)) }
     ensures read { IfOk result (λ o. IfSome o (λ n. Consumes (R.remaining reader.old) (R.remaining reader.new) (take n rest.now))) }
     ensures end { IfOk result (λ o. IfSome o (λ n. n ≡ 0 → 0 < length window.old → IsAtEnd (R.remaining reader.new))) }
+    ensures differs { IfOk result (λ o. IfNone o (IfSome (R.remaining reader.old) (λ left. StartsWith rest.now left → ⊥))) }
 {
     let n = reader.read(window)?;
     if n <= rest.len() && window[..n] == rest[..n] {
