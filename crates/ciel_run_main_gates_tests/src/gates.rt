@@ -3,10 +3,10 @@
 
 ghost use Rattle.std.specs.Prelude.{◌≡◌, ◌<◌, IfOk, length};
 
-use crate::calls::outcome;
 use ciel_gate::meeting::Meeting;
 use ciel_gate::recorder::Recorder;
 use ciel_master::entry::Entry;
+use ciel_run_tests::calls::outcome;
 use sky_base::name::Name;
 use sky_base::object::TaskId;
 use std::alloc::Global;
