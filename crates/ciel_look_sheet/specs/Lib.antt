@@ -1,3 +1,4 @@
 pub mod Drawn
+pub mod Labels
 pub mod Picture
 pub mod Titles

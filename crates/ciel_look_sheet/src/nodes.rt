@@ -1,10 +1,12 @@
 //! Kinds of tasks with their colours, and their labels.
 
-ghost use Rattle.std.specs.Prelude.{◌≡◌, IfOk, Some};
+ghost use Rattle.std.specs.Prelude.{◌≡◌, IfOk, None, Some};
+ghost use Rattle.sky_base.specs.ObjectView.{desc_view};
 ghost use Rattle.ciel_look_shown.specs.Plain.{shown};
 ghost use Rattle.ciel_look_tasks.specs.Heads.{own_desc};
-ghost use Rattle.ciel_look_tasks.specs.Known.{known_view};
+ghost use Rattle.ciel_look_tasks.specs.Known.{known_view, named_at};
 ghost use Rattle.ciel_look_tasks.specs.SceneView.{row_view};
+ghost use Rattle.ciel_look_sheet.specs.Labels.{desc_colour, task_colour, task_head, task_words};
 ghost use Rattle.ciel_look_sheet.specs.Titles.{named_title, row_title, task_title, whole_name};
 
 use ciel_look_shown::plain::Plain;
@@ -20,7 +22,9 @@ use std::alloc::Global;
 pub const MOST_DRAWN: usize = 300;
 
 /// The colour of a description.
-pub fn colour_of(desc: &Desc1) -> &'static str {
+pub fn colour_of(desc: &Desc1) -> &'static str
+    ensures colour { result.now ≡ desc_colour (desc_view desc.now) }
+{
     match desc {
         Desc1::Call {
             fun: _,
@@ -38,34 +42,74 @@ pub fn colour_of(desc: &Desc1) -> &'static str {
 }
 
 /// The colour of a task.
-pub fn task_colour(scene: &Scene, task: &Task) -> &'static str {
+pub fn task_colour(scene: &Scene, task: &Task) -> &'static str
+    ensures colour { result.now ≡ task_colour (named_at scene.now.known.all.items task.now.known) task.now.id }
+{
     match scene.desc_of(task) {
         Some(known) => colour_of(&known.desc),
-        None => if matches!(task.id, TaskId::Show) {
-            "#fdd0a2"
-        } else {
-            "#d9d9d9"
-        },
+        None => other_colour(&task.id),
+    }
+}
+
+/// The colour of a task of which no description is known.
+fn other_colour(id: &TaskId) -> &'static str
+    ensures colour { result.now ≡ task_colour None id.now }
+{
+    match id {
+        TaskId::Show => "#fdd0a2",
+        TaskId::Of(_) => "#d9d9d9",
     }
 }
 
 /// The words of a task.
-pub fn task_words(alloc: Global, scene: &Scene, task: &Task) -> Result<Plain, Memory> {
+///
+/// Answers `Memory` for want of memory.
+pub fn task_words(alloc: Global, scene: &Scene, task: &Task) -> Result<Plain, Memory>
+    ensures words { IfOk result (λ t. t ≡ shown (task_words (named_at scene.now.known.all.items task.now.known) task.now.id)) }
+{
     match scene.desc_of(task) {
-        Some(known) => words::words(alloc, &known.desc),
-        None => task_name(alloc, &task.id),
+        Some(known) => {
+            let text = words::words(alloc, &known.desc)?;
+            Ok(text)
+        }
+        None => {
+            let name = task_name(alloc, &task.id)?;
+            Ok(name)
+        }
     }
 }
 
 /// The name of a task's function or executor alone.
-pub fn task_head(alloc: Global, scene: &Scene, task: &Task) -> Result<Plain, Memory> {
+///
+/// Answers `Memory` for want of memory.
+pub fn task_head(alloc: Global, scene: &Scene, task: &Task) -> Result<Plain, Memory>
+    ensures head { IfOk result (λ t. t ≡ shown (task_head (named_at scene.now.known.all.items task.now.known) task.now.id)) }
+{
     match scene.desc_of(task) {
-        Some(known) => words::head(alloc, &known.desc),
-        None => if matches!(task.id, TaskId::Show) {
-            say(alloc, "result")
-        } else {
-            say(alloc, "unknown")
-        },
+        Some(known) => {
+            let text = words::head(alloc, &known.desc)?;
+            Ok(text)
+        }
+        None => {
+            let text = other_head(alloc, &task.id)?;
+            Ok(text)
+        }
+    }
+}
+
+/// What stands for the head of a task of which no description is known.
+fn other_head(alloc: Global, id: &TaskId) -> Result<Plain, Memory>
+    ensures head { IfOk result (λ t. t ≡ shown (task_head None id.now)) }
+{
+    match id {
+        TaskId::Show => {
+            let text = say(alloc, "result")?;
+            Ok(text)
+        }
+        TaskId::Of(_) => {
+            let text = say(alloc, "unknown")?;
+            Ok(text)
+        }
     }
 }
 

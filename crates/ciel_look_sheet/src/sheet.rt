@@ -4,6 +4,7 @@ ghost use Rattle.std.specs.Prelude.{◌≡◌, [], ◌∷◌, ◌++◌, ℕ, Lis
 ghost use Rattle.ciel_look_shown.specs.Markup.{element_bytes, leaf_bytes};
 ghost use Rattle.ciel_look_shown.specs.declared.tag.Tag.{Tag};
 ghost use Rattle.ciel_look_sheet.specs.Drawn.{Draws, title_bytes, words_bytes};
+ghost use Rattle.ciel_look_sheet.specs.Labels.{room};
 ghost use Rattle.ciel_look_sheet.specs.Picture.{Holds, IsPicture};
 
 use ciel_look_shown::markup::{Attributes, Markup};
@@ -205,7 +206,9 @@ fn whole(alloc: Global, attributes: &Attributes, inner: &Markup) -> Result<Marku
 }
 
 /// How many characters a box of this width has room for.
-pub fn room(width: usize) -> usize {
+pub fn room(width: usize) -> usize
+    ensures { result ≡ room width }
+{
     (width.saturating_sub(4) / 6).max(2)
 }
 

@@ -1,5 +1,5 @@
 -- Bytes that are kept, put one behind the other.
-use Rattle.std.proofs.Common.{◌≡◌, ◌≤◌, ◌<◌, ◌-◌, ◌+◌, ℕ, zero, suc, List, [], ◌∷◌, ◌++◌, Bool, true, false, cond, length, take, refl, ap, sym, ◌∙◌, None}
+use Rattle.std.proofs.Common.{◌≡◌, ◌≤◌, ◌+◌, ℕ, zero, suc, List, [], ◌∷◌, ◌++◌, Bool, true, false, cond, length, take, refl, ap, sym, ◌∙◌, None}
 use Rattle.std.proofs.Common.{append_assoc, append-nil, arith, codes, nat_lt, length-append}
 use Rattle.std.proofs.lemmas.List.{take-append-le, take-take, length-take-le}
 use Rattle.std.proofs.Math.Seq.{take-append-add}
@@ -9,7 +9,7 @@ use Rattle.sky_base.specs.Val.{Val, Pairs, Vals, null, truth, num, text, list, d
 use Rattle.sky_base.specs.View.{pairs_of, view}
 use Rattle.sky_base.specs.declared.value.Pair.{Pair}
 use Rattle.sky_base.specs.declared.value.Value.{Value}
-use Rattle.ciel_look_words.specs.Words.{call_words, clipped, given_words, only, vals_words, value_words}
+use Rattle.ciel_look_words.specs.Words.{call_head, call_words, clipped, given_words, only, vals_words, value_words}
 
 take_all : (n : ℕ) (xs : List ℕ) → length xs ≤ n → take n xs ≡ xs
 take_all zero [] h = refl
@@ -78,6 +78,13 @@ call_main f vs e = ap (λ g. call_words g vs) e
 pub call_other : (f : List ℕ) (vs : Vals (List ℕ)) → (f ≡ [] → ⊥) → call_words f vs ≡ f ++ (codes "(" ++ (vals_words true vs ++ codes ")"))
 call_other [] vs h = absurd (h refl)
 call_other (b ∷ bs) vs h = refl
+
+pub head_main : (f : List ℕ) → f ≡ [] → call_head f ≡ codes "main"
+head_main f e = ap call_head e
+
+pub head_other : (f : List ℕ) → (f ≡ [] → ⊥) → call_head f ≡ f
+head_other [] h = absurd (h refl)
+head_other (b ∷ bs) h = refl
 
 pub given_other : (v : Value) → ((ps : Pairs (List ℕ)) → v ≡ Value.Dict ps → ⊥)
     → given_words (view v) ≡ codes "(" ++ (value_words (view v) ++ codes ")")

@@ -1,5 +1,5 @@
 -- Values and descriptions in words.
-use Rattle.std.specs.Prelude.{ℕ, List, [], ◌∷◌, ◌++◌, Bool, true, false, ◌&&◌, codes, cond, decimal, length, nat_lt, take, Option, Some, None}
+use Rattle.std.specs.Prelude.{ℕ, List, [], ◌∷◌, ◌++◌, Bool, true, false, codes, cond, decimal, length, nat_lt, take, Option, Some, None}
 use Rattle.std.specs.Fmt.{signed_decimal}
 use Rattle.std.specs.Str.{bytes_eq}
 use Rattle.hex.specs.Hex.{encode_lower}
@@ -71,6 +71,18 @@ desc_words (out x v n i) = x ++ given_words v
 desc_words (input k) = codes "input " ++ k
 desc_words (known name) = []
 
+-- the main call, or the name of a function
+abbrev pub call_head : List ℕ → List ℕ
+call_head [] = codes "main"
+call_head (b ∷ f) = b ∷ f
+
+-- the name of the function or of the executor alone
+abbrev pub desc_head : Desc (List ℕ) → List ℕ
+desc_head (call f c vs) = call_head f
+desc_head (out x v n i) = x
+desc_head (input k) = codes "input"
+desc_head (known name) = []
+
 -- ---- what is shown of them: up to 60 characters
 
 -- all of it, or the first 58 and two dots
@@ -79,3 +91,6 @@ clipped t = cond (nat_lt 60 (length t)) (take 58 t ++ codes "..") t
 
 abbrev pub words : Desc (List ℕ) → List ℕ
 words d = clipped (desc_words d)
+
+abbrev pub head : Desc (List ℕ) → List ℕ
+head d = clipped (desc_head d)

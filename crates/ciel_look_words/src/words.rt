@@ -5,7 +5,8 @@ ghost use Rattle.sky_base.specs.ObjectView.{desc_view};
 ghost use Rattle.sky_base.specs.View.{view};
 ghost use Rattle.ciel_look_shown.specs.Plain.{shown};
 ghost use Rattle.ciel_look_words.specs.Kept.{Puts};
-ghost use Rattle.ciel_look_words.specs.Words.{call_words, clipped, count_or_pairs, desc_words, digits, given_words, only, value_words, words};
+ghost use Rattle.ciel_look_words.specs.Words.{call_head, call_words, clipped, count_or_pairs, desc_head, desc_words, digits, given_words, head, only};
+ghost use Rattle.ciel_look_words.specs.Words.{value_words, words};
 
 use crate::short::Short;
 use crate::value::{put, put_pairs, put_value, put_values};
@@ -35,10 +36,13 @@ pub fn words(alloc: Global, desc: &Desc1) -> Result<Plain, Memory>
 /// The name of the function or of the executor alone, up to 60 characters.
 ///
 /// Answers `Memory` for want of memory.
-pub fn head(alloc: Global, desc: &Desc1) -> Result<Plain, Memory> {
+pub fn head(alloc: Global, desc: &Desc1) -> Result<Plain, Memory>
+    ensures head { IfOk result (λ t. t ≡ shown (head (desc_view desc.now))) }
+{
     let mut short = Short::new(alloc);
-    put_head(alloc, &mut short, desc)?;
-    clip(alloc, &short)
+    put_head(&mut short, desc)?;
+    let text = clip(alloc, &short)?;
+    Ok(text)
 }
 
 /// The first eight digits of a name.
@@ -188,23 +192,41 @@ fn put_count(out: &mut Short, count: usize) -> Result<(), Memory>
     Ok(())
 }
 
-fn put_head(alloc: Global, out: &mut Short, desc: &Desc1) -> Result<(), Memory> {
+fn put_head(out: &mut Short, desc: &Desc1) -> Result<(), Memory>
+    ensures { IfOk result (λ _. Puts out.old (desc_head (desc_view desc.now)) out.new) }
+{
     match desc {
         Desc1::Call {
             fun,
             caught: _,
             args: _,
-        } => if fun.is_empty() {
-            put(out, "main")
-        } else {
-            put(out, fun.as_str())
-        },
+        } => {
+            put_function(out, fun)?;
+            Ok(())
+        }
         Desc1::Exec {
             executor,
             args: _,
             outputs: _,
             index: _,
-        } => put(out, executor.as_str()),
-        Desc1::Input { key: _ } => put(out, "input"),
+        } => {
+            put(out, executor.as_str())?;
+            Ok(())
+        }
+        Desc1::Input { key: _ } => {
+            put(out, "input")?;
+            Ok(())
+        }
     }
+}
+
+fn put_function(out: &mut Short, fun: &Txt) -> Result<(), Memory>
+    ensures { IfOk result (λ _. Puts out.old (call_head fun.now) out.new) }
+{
+    if fun.is_empty() {
+        put(out, "main")?;
+        return Ok(());
+    }
+    put(out, fun.as_str())?;
+    Ok(())
 }

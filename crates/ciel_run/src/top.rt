@@ -381,7 +381,8 @@ where
     ensures message { ¬ HasRisen (J.faults log.old) (J.faults log.new)
         → Tells (J.written log.old) (J.written log.new) (trace_of line.now.trace result.ended.journal.items ++ message_of result.ended.why) }
     ensures message_part { TellsParts (J.written log.old) (J.written log.new) (trace_of line.now.trace result.ended.journal.items) (message_of result.ended.why) }
-    ensures logged { result.ended.why ≡ Why.Done → Tells (J.written log.old) (J.written log.new) (trace_of line.now.trace result.ended.journal.items) }
+    ensures logged { result.ended.why ≡ Why.Done
+        → Tells (J.written log.old) (J.written log.new) (trace_of line.now.trace result.ended.journal.items) }
     ensures log_never_falls { J.faults log.old ≤ J.faults log.new }
     ensures status { result.ended.status ≡ status_of result.ended.why }
     ensures entries { IfSome result.memo (λ kit. BeginsWith (F.content files.old) line.now.memo kit.entries) }

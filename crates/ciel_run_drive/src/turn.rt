@@ -40,7 +40,8 @@ fn lose_one<K: Kit + Drop, N: Namer + Drop, C: Crew<K = K, N = N>>(
     requires working { Working K.gives N.digest (C.shop crew.now) (C.is_sound crew.now) master.old (C.out crew.now) }
     requires due { (worker : ℕ) × FirstDue master.old.board.plan.losses master.old.board.closes master.old.board.table.gone loss worker }
     ensures working { Working K.gives N.digest (C.shop crew.now) (C.is_sound crew.now) master.new (C.out crew.now) }
-    ensures model { Kept K.gives N.digest (C.shop crew.now) (C.is_sound crew.now) master.old (C.out crew.now) state → Kept K.gives N.digest (C.shop crew.now) (C.is_sound crew.now) master.new (C.out crew.now) state }
+    ensures model { Kept K.gives N.digest (C.shop crew.now) (C.is_sound crew.now) master.old (C.out crew.now) state
+        → Kept K.gives N.digest (C.shop crew.now) (C.is_sound crew.now) master.new (C.out crew.now) state }
     ensures less { left master.new (C.out crew.now) < left master.old (C.out crew.now) }
     ensures plan { master.new.board.plan ≡ master.old.board.plan }
     ensures told { ToldOn master.old.board.journal master.new.board.journal (C.told crew.now) (C.told crew.now) }
@@ -138,7 +139,8 @@ fn start_one<K: Kit + Drop, N: Namer + Drop, C: Crew<K = K, N = N>>(
     requires idle { idle.now ≡ idle_of master.old.board }
     requires some_worker { 0 < length idle.now }
     ensures working { OnOk result (Working K.gives N.digest (C.shop crew.new) (C.is_sound crew.new) master.new (C.out crew.new)) }
-    ensures model { OnOk result (Kept K.gives N.digest (C.shop crew.old) (C.is_sound crew.old) master.old (C.out crew.old) state.old → Kept K.gives N.digest (C.shop crew.new) (C.is_sound crew.new) master.new (C.out crew.new) state.new) }
+    ensures model { OnOk result (Kept K.gives N.digest (C.shop crew.old) (C.is_sound crew.old) master.old (C.out crew.old) state.old
+        → Kept K.gives N.digest (C.shop crew.new) (C.is_sound crew.new) master.new (C.out crew.new) state.new) }
     ensures less { OnOk result (left master.new (C.out crew.new) < left master.old (C.out crew.old)) }
     ensures plan { OnOk result (master.new.board.plan ≡ master.old.board.plan) }
     ensures told { OnOk result (ToldOn master.old.board.journal master.new.board.journal (C.told crew.old) (C.told crew.new)) }
@@ -148,7 +150,8 @@ fn start_one<K: Kit + Drop, N: Namer + Drop, C: Crew<K = K, N = N>>(
     ensures shop { C.shop crew.new ≡ C.shop crew.old }
     ensures stays { C.stays crew.new ≡ C.stays crew.old }
     ensures memory { IfErr result (λ e. e ≡ End.Memory) }
-    ensures end { IfErr result (λ e. Kept K.gives N.digest (C.shop crew.old) (C.is_sound crew.old) master.old (C.out crew.old) state.old → Ended K.gives N.digest (C.shop crew.old) master.old.board.plan master.new.board.journal e) }
+    ensures end { IfErr result (λ e. Kept K.gives N.digest (C.shop crew.old) (C.is_sound crew.old) master.old (C.out crew.old) state.old
+        → Ended K.gives N.digest (C.shop crew.old) master.old.board.plan master.new.board.journal e) }
 {
     orders_are_safe();
     turns_come_to_an_end();
@@ -174,7 +177,8 @@ fn take_one<K: Kit + Drop, N: Namer + Drop, C: Crew<K = K, N = N>>(
     requires rests { RestsNow master.old.board }
     requires some_out { 0 < length master.old.board.orders }
     ensures working { OnOk result (Working K.gives N.digest (C.shop crew.new) (C.is_sound crew.new) master.new (C.out crew.new)) }
-    ensures model { OnOk result (Kept K.gives N.digest (C.shop crew.old) (C.is_sound crew.old) master.old (C.out crew.old) state → Kept K.gives N.digest (C.shop crew.new) (C.is_sound crew.new) master.new (C.out crew.new) state) }
+    ensures model { OnOk result (Kept K.gives N.digest (C.shop crew.old) (C.is_sound crew.old) master.old (C.out crew.old) state
+        → Kept K.gives N.digest (C.shop crew.new) (C.is_sound crew.new) master.new (C.out crew.new) state) }
     ensures less { OnOk result (left master.new (C.out crew.new) < left master.old (C.out crew.old)) }
     ensures plan { OnOk result (master.new.board.plan ≡ master.old.board.plan) }
     ensures told { OnOk result (ToldOn master.old.board.journal master.new.board.journal (C.told crew.old) (C.told crew.new)) }
@@ -183,7 +187,8 @@ fn take_one<K: Kit + Drop, N: Namer + Drop, C: Crew<K = K, N = N>>(
         (C.record_of crew.old) master.old.board (C.record_of crew.new) master.new.board) }
     ensures shop { C.shop crew.new ≡ C.shop crew.old }
     ensures stays { C.stays crew.new ≡ C.stays crew.old }
-    ensures end { IfErr result (λ e. Kept K.gives N.digest (C.shop crew.old) (C.is_sound crew.old) master.old (C.out crew.old) state → Ended K.gives N.digest (C.shop crew.old) master.old.board.plan master.new.board.journal e) }
+    ensures end { IfErr result (λ e. Kept K.gives N.digest (C.shop crew.old) (C.is_sound crew.old) master.old (C.out crew.old) state
+        → Ended K.gives N.digest (C.shop crew.old) master.old.board.plan master.new.board.journal e) }
     ensures sound { IfErr result (λ e. e ≢ End.Memory → C.is_sound crew.new ≡ true) }
     ensures last { IfErr result (λ e. e ≢ End.Memory → ToldOn master.old.board.journal master.new.board.journal (C.told crew.old) (C.told crew.new)) }
     ensures ends { IfErr result (λ e. Ends K.gives N.digest (C.shop crew.old)
@@ -219,7 +224,8 @@ fn come_round<K: Kit + Drop, N: Namer + Drop, C: Crew<K = K, N = N>>(
     requires working { Working K.gives N.digest (C.shop crew.now) (C.is_sound crew.now) master.now (C.out crew.now) }
     requires none_out { master.now.board.orders ≡ [] }
     requires none_runs { CanRun master.now.board [] }
-    ensures end { Kept K.gives N.digest (C.shop crew.now) (C.is_sound crew.now) master.now (C.out crew.now) state → Ended K.gives N.digest (C.shop crew.now) master.now.board.plan master.now.board.journal result }
+    ensures end { Kept K.gives N.digest (C.shop crew.now) (C.is_sound crew.now) master.now (C.out crew.now) state
+        → Ended K.gives N.digest (C.shop crew.now) master.now.board.plan master.now.board.journal result }
     ensures ends { Ends K.gives N.digest (C.shop crew.now)
         (Kept K.gives N.digest (C.shop crew.now) (C.is_sound crew.now) master.now (C.out crew.now) state) C.goes
         (C.record_of crew.now) master.now.board (C.record_of crew.now) master.now.board.journal result }
@@ -239,7 +245,8 @@ pub(crate) fn turn<K: Kit + Drop, N: Namer + Drop, C: Crew<K = K, N = N>>(
 ) -> Result<(), RunEnd>
     requires working { Working K.gives N.digest (C.shop crew.old) (C.is_sound crew.old) master.old (C.out crew.old) }
     ensures working { OnOk result (Working K.gives N.digest (C.shop crew.new) (C.is_sound crew.new) master.new (C.out crew.new)) }
-    ensures model { OnOk result (Kept K.gives N.digest (C.shop crew.old) (C.is_sound crew.old) master.old (C.out crew.old) state.old → Kept K.gives N.digest (C.shop crew.new) (C.is_sound crew.new) master.new (C.out crew.new) state.new) }
+    ensures model { OnOk result (Kept K.gives N.digest (C.shop crew.old) (C.is_sound crew.old) master.old (C.out crew.old) state.old
+        → Kept K.gives N.digest (C.shop crew.new) (C.is_sound crew.new) master.new (C.out crew.new) state.new) }
     ensures less { OnOk result (left master.new (C.out crew.new) < left master.old (C.out crew.old)) }
     ensures plan { OnOk result (master.new.board.plan ≡ master.old.board.plan) }
     ensures told { OnOk result (ToldOn master.old.board.journal master.new.board.journal (C.told crew.old) (C.told crew.new)) }
@@ -248,7 +255,8 @@ pub(crate) fn turn<K: Kit + Drop, N: Namer + Drop, C: Crew<K = K, N = N>>(
         (C.record_of crew.old) master.old.board (C.record_of crew.new) master.new.board) }
     ensures shop { C.shop crew.new ≡ C.shop crew.old }
     ensures stays { C.stays crew.new ≡ C.stays crew.old }
-    ensures end { IfErr result (λ e. Kept K.gives N.digest (C.shop crew.old) (C.is_sound crew.old) master.old (C.out crew.old) state.old → Ended K.gives N.digest (C.shop crew.old) master.old.board.plan master.new.board.journal e) }
+    ensures end { IfErr result (λ e. Kept K.gives N.digest (C.shop crew.old) (C.is_sound crew.old) master.old (C.out crew.old) state.old
+        → Ended K.gives N.digest (C.shop crew.old) master.old.board.plan master.new.board.journal e) }
     ensures sound { IfErr result (λ e. e ≢ End.Memory → C.is_sound crew.new ≡ true) }
     ensures last { IfErr result (λ e. e ≢ End.Memory → ToldOn master.old.board.journal master.new.board.journal (C.told crew.old) (C.told crew.new)) }
     ensures ends { IfErr result (λ e. Ends K.gives N.digest (C.shop crew.old)

@@ -480,7 +480,8 @@ where
     ensures told { result.result ≢ Err Why.Memory
         → SurelyAt line.now.resume (ToldBy (map entry_view result.journal.items) (told_of G.entered line.now.workers gates.old.items)
         (told_of G.entered line.now.workers gates.new.items))
-        (OnwardTold (λ replayed. (bytes : List ℕ) → log ≡ Some bytes → OwnIfRead (K.gives kit) line.now loaded.source (job_view loaded.job).inputs (job_view loaded.job) log
+        (OnwardTold (λ replayed. (bytes : List ℕ) → log ≡ Some bytes
+        → OwnIfRead (K.gives kit) line.now loaded.source (job_view loaded.job).inputs (job_view loaded.job) log
         → ReplaysLog (K.gives kit) line.now loaded.source (job_view loaded.job).inputs (job_view loaded.job) bytes replayed)
         (map entry_view result.journal.items) (told_of G.entered line.now.workers gates.old.items)
         (told_of G.entered line.now.workers gates.new.items)) }
@@ -491,7 +492,8 @@ where
     ensures keeps { KeepsLog (log_path line.now)
         (record { files = D.files keep.old; asked = D.asked keep.old; faults = D.faults keep.old })
         (record { files = D.files keep.new; asked = D.asked keep.new; faults = D.faults keep.new }) result.result result.state }
-    ensures logged { OwnIfRead (K.gives kit) line.now loaded.source (job_view loaded.job).inputs (job_view loaded.job) log → (inputs : List Input) → IsOf loaded.source inputs (job_view loaded.job)
+    ensures logged { OwnIfRead (K.gives kit) line.now loaded.source (job_view loaded.job).inputs (job_view loaded.job) log → (inputs : List Input)
+        → IsOf loaded.source inputs (job_view loaded.job)
         → LogTold (K.gives kit) line.now loaded.source inputs (map entry_view result.journal.items) (D.files keep.new) result.state result.result }
 {
     if line.plain {

@@ -75,7 +75,8 @@ where
     ensures told { result.answered.result ≢ Err Why.Memory
         → SurelyAt line.now.resume (ToldBy (map entry_view result.answered.journal.items) (told_of G.entered line.now.workers gates.old.items)
         (told_of G.entered line.now.workers gates.new.items))
-        (OnwardTold (λ replayed. (bytes : List ℕ) → log ≡ Some bytes → OwnIfRead (given_by (option_map (λ r. r.kit.entries) recalled)) line.now loaded.source (job_view loaded.job).inputs (job_view loaded.job) log
+        (OnwardTold (λ replayed. (bytes : List ℕ) → log ≡ Some bytes
+        → OwnIfRead (given_by (option_map (λ r. r.kit.entries) recalled)) line.now loaded.source (job_view loaded.job).inputs (job_view loaded.job) log
         → ReplaysLog (given_by (option_map (λ r. r.kit.entries) recalled)) line.now loaded.source (job_view loaded.job).inputs (job_view loaded.job) bytes replayed)
         (map entry_view result.answered.journal.items) (told_of G.entered line.now.workers gates.old.items)
         (told_of G.entered line.now.workers gates.new.items)) }
@@ -86,8 +87,10 @@ where
     ensures keeps { KeepsLog (log_path line.now)
         (record { files = D.files keep.old; asked = D.asked keep.old; faults = D.faults keep.old })
         (record { files = D.files keep.new; asked = D.asked keep.new; faults = D.faults keep.new }) result.answered.result result.answered.state }
-    ensures logged { OwnIfRead (given_by (option_map (λ r. r.kit.entries) recalled)) line.now loaded.source (job_view loaded.job).inputs (job_view loaded.job) log → (inputs : List Input) → IsOf loaded.source inputs (job_view loaded.job)
-        → LogTold (given_by (option_map (λ r. r.kit.entries) recalled)) line.now loaded.source inputs (map entry_view result.answered.journal.items) (D.files keep.new) result.answered.state result.answered.result }
+    ensures logged { OwnIfRead (given_by (option_map (λ r. r.kit.entries) recalled)) line.now loaded.source (job_view loaded.job).inputs (job_view loaded.job) log
+        → (inputs : List Input) → IsOf loaded.source inputs (job_view loaded.job)
+        → LogTold (given_by (option_map (λ r. r.kit.entries) recalled)) line.now loaded.source inputs
+        (map entry_view result.answered.journal.items) (D.files keep.new) result.answered.state result.answered.result }
     ensures memo { result.memo ≡ option_map (λ r. r.kept) recalled }
 {
     let Some(recalled) = recalled else {

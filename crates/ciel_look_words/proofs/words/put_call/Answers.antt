@@ -1,5 +1,5 @@
 -- The main call has no name.
-use Rattle.std.proofs.Common.{◌≡◌, [], false, true, sym, ◌∙◌, subst}
+use Rattle.std.proofs.Common.{◌≡◌, false, true, sym, ◌∙◌, subst}
 use Rattle.ciel_look_words.specs.Kept.{Puts}
 use Rattle.ciel_look_words.proofs.KeptBytes.{call_main, call_other, puts_four}
 use Rattle.ciel_look_words.proofs.words.put_call.Goals as goal
