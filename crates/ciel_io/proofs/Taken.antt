@@ -41,4 +41,4 @@ first_differ (Some xs) (Some ys) piece given one differ = λ starts.
     let long : length xs ≡ length given + length ys = ap length one ∙ length-append given ys in
     let within : length given ≤ length xs = omega (arith, long) in
     differ (sym (take-take (length given) (length xs) piece within) ∙ ap (take (length given)) (starts ∙ one)
-        ∙ take-append-le (length given) given ys (omega arith) ∙ take_all (length given) given (omega arith))
+    ∙ take-append-le (length given) given ys (omega arith) ∙ take_all (length given) given (omega arith))

@@ -224,7 +224,8 @@ fn put_function(out: &mut Short, fun: &Txt) -> Result<(), Memory>
     ensures { IfOk result (λ _. Puts out.old (call_head fun.now) out.new) }
 {
     if fun.is_empty() {
-        put(out, "main")?;
+        let main = "main";
+        put(out, main)?;
         return Ok(());
     }
     put(out, fun.as_str())?;

@@ -11,9 +11,9 @@ returns-else-n-rest-clause-differs g c =
     let read = c.in_ok-n.ensures in
     let long = read.bound.1 in
     elim c.else-n-rest.branch [
-        else-n-rest-via-then-n-rest+else-eq w ↦
-            first_differ _ _ rest given read.bytes.0 (λ same.
-                let equal : given ≡ take c.in_ok-n.n rest = sym same ∙ ap (λ n. take n rest) (sym long) in
-                true≢false (sym ((bytes_decides given (take c.in_ok-n.n rest)).1 equal) ∙ sym w.if-eq.ensures))
+      | else-n-rest-via-then-n-rest+else-eq w ↦
+          first_differ _ _ rest given read.bytes.0 (λ same.
+          let equal : given ≡ take c.in_ok-n.n rest = sym same ∙ ap (λ n. take n rest) (sym long) in
+          true≢false (sym ((bytes_decides given (take c.in_ok-n.n rest)).1 equal) ∙ sym w.if-eq.ensures))
       | else-n-rest-via-else-n-rest w ↦ too_many _ _ rest given read.bytes.0 (subst (λ n. length rest < n) long w.if-n-rest.false)
-      ]
+    ]
