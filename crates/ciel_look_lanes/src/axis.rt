@@ -21,6 +21,7 @@ pub const MOST_LANES: usize = 64;
 const WIDEST: u128 = 10_200;
 
 /// How many things happened: that is what contracts see.
+#[derive(Drop)]
 pub struct Axis {
     count: usize,
 }
