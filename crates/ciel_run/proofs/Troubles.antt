@@ -343,6 +343,20 @@ pub begun_then : (log : Option (List ℕ)) (state : LogState) (why : Why) (F : T
     → ((path : List ℕ) → log ≡ Some path → why ≡ Why.KeepFault path → F) → IfKeepFault why (λ path. F)
 begun_then log state why F f g = given_failed log state why F (kind log state why f) g
 
+-- a fact of the end of a run whose log is full
+given_full : (log : Option (List ℕ)) (state : LogState) (why : Why) (F : Type 0) → Kind log state why
+    → ((path : List ℕ) (held : ℕ) → why ≡ Why.LogFull path held → F)
+    → IfLogFull why (λ path held. F)
+given_full log state why F (done e x) f = subst (λ (y : Why). IfLogFull y (λ p n. F)) (sym e) tt
+given_full log state why F (failed path n t e) f = subst (λ (y : Why). IfLogFull y (λ p n. F)) (sym e) tt
+given_full log state why F (full path held n t e) f = subst (λ (y : Why). IfLogFull y (λ p n. F)) (sym e) (f path held e)
+given_full log state why F (memory e) f = subst (λ (y : Why). IfLogFull y (λ p n. F)) (sym e) tt
+given_full log state why F (unwritten e) f = subst (λ (y : Why). IfLogFull y (λ p n. F)) (sym e) tt
+
+pub full_then : (log : Option (List ℕ)) (state : LogState) (why : Why) (F : Type 0) → Finished log state why
+    → ((path : List ℕ) (held : ℕ) → why ≡ Why.LogFull path held → F) → IfLogFull why (λ path held. F)
+full_then log state why F f g = given_full log state why F (kind log state why f) g
+
 -- no run began where the end says so, which it does behind an answer of a sequential run alone
 none_began : (log : Option (List ℕ)) (state : LogState) (why : Why) (plain : Bool) → Kind log state why → NoRun plain why → plain ≡ true
 none_began log state why plain (done e x) n = subst (NoRun plain) e n

@@ -21,7 +21,7 @@ use Rattle.ciel_run_log.specs.declared.why.Ended.{Ended}
 use Rattle.ciel_run_log.specs.declared.why.Why.{Why}
 use Rattle.ciel_run.proofs.Others.{bad_no_answer, bad_why, other_no_answer, other_why}
 use Rattle.ciel_run.proofs.Over.{end_cause}
-use Rattle.ciel_run.proofs.Troubles.{answer_falls, asked_so, asked_then, begun_then, end_falls, err_is, files_asked, has_end, keep_fault, keep_fault_so, keep_named, log_full, log_plain, no_run_is_plain, says, says_so, something, trouble_cause}
+use Rattle.ciel_run.proofs.Troubles.{answer_falls, asked_so, asked_then, begun_then, end_falls, err_is, files_asked, full_then, has_end, keep_fault, keep_fault_so, keep_named, log_full, log_plain, no_run_is_plain, says, says_so, something, trouble_cause}
 use Rattle.ciel_run.proofs.top.run.Goals as goal
 
 pub returns-in-Err-clause-cause : goal.returns-in-Err-clause-cause
@@ -292,6 +292,20 @@ returns-in-Ok-clause-begun g c =
       (c.in-Ok.answer, answer, c.finish-why.ensures.written (λ w. let bad : Why.KeepFault path ≡ Why.WriteFault = sym k ∙ w in cc)),
       c.answer_line-answered.ensures.root (log_plain line c.requires.line path n) shows,
     )))
+
+pub returns-in-Ok-clause-full : goal.returns-in-Ok-clause-full
+returns-in-Ok-clause-full g c =
+    let content = g.F.Files.content c.args.files.now in
+    let line = c.args.line.now in
+    let risen = HasRisen (g.F.Files.faults c.args.files.now) (g.F.Files.faults c.answer_line-answered.new.files) in
+    let J = map entry_view c.answer_line-answered.result.answered.journal.items in
+    let answer = subst (λ (r : Result (List ℕ) Why). IfOk r (λ b. OfRun content line risen J (λ h job. s.Means job (around h) (Answered.bytes b))))
+    c.in-Ok.is c.answer_line-answered.ensures.bytes in
+    subst (λ (r : Ended). IfLogFull r.why (λ path held. Writes content line (Tells (g.O.Sink.written c.args.out.now) (g.O.Sink.written c.finish-why.new.out))))
+    (sym c.ended.ensures)
+    (full_then (log_path line) c.answer_line-answered.result.answered.state c.finish-why.result _ c.finish-why.ensures.ends
+    (λ path held k.
+    (c.in-Ok.answer, answer, c.finish-why.ensures.written (λ w. let bad : Why.LogFull path held ≡ Why.WriteFault = sym k ∙ w in cc))))
 
 pub returns-in-Ok-clause-empty : goal.returns-in-Ok-clause-empty
 returns-in-Ok-clause-empty g c =
