@@ -18,7 +18,7 @@ use Rattle.ciel_run_line.specs.Resuming.{OnwardTold, OwnIfRead, ReplaysLog}
 use Rattle.ciel_run_line.specs.Runs.{digest_of, log_at, log_path, plan_of}
 use Rattle.ciel_run_log.specs.declared.why.Why.{Why}
 use Rattle.ciel_run_logged.specs.Told.{ToldBy}
-use Rattle.ciel_run_resumed.specs.Gates.{ToldSince}
+use Rattle.ciel_run_onward.specs.Gates.{ToldSince}
 use Rattle.ciel_run_drive.specs.Told.{ToldOf}
 use Rattle.ciel_task_crew.specs.Crews.{told_at}
 use Rattle.ciel_run_resumed.specs.Resuming.{Replays}

@@ -11,6 +11,7 @@ pub use Rattle.ciel_run_logged.specs.Ended
 pub use Rattle.ciel_run_logged.specs.Told
 pub mod Source
 pub mod Given
+pub mod Recall
 pub mod Resuming
 pub mod Line
 pub mod Runs

@@ -11,7 +11,7 @@ use Rattle.ciel_log_readable.specs.Readable.{BeginsWritten}
 use Rattle.ciel_log_refuses.specs.Refusals.{IsBadAt}
 use Rattle.ciel_run_load.specs.Line.{Input}
 use Rattle.ciel_run_log.specs.declared.why.Why.{Why}
-use Rattle.ciel_run_resumed.specs.Gates.{ToldSince}
+use Rattle.ciel_run_onward.specs.Gates.{ToldSince}
 use Rattle.ciel_run_resumed.specs.Resuming.{Replays}
 use Rattle.ciel_run_line.specs.Keeping.{header_of}
 use Rattle.ciel_run_line.specs.Runs.{digest_of, plan_of}

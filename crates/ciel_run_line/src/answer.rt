@@ -22,7 +22,7 @@ ghost use Rattle.ciel_log_refuses.specs.Refusals.{IsBadAt};
 ghost use Rattle.ciel_log_records.specs.Records.{in_file};
 ghost use Rattle.ciel_run_logged.specs.Keeping.{IfOver, Keeps};
 ghost use Rattle.ciel_run_logged.specs.Kinds.{IsFor, IsOverLines};
-ghost use Rattle.ciel_run_resumed.specs.Gates.{ToldSince};
+ghost use Rattle.ciel_run_onward.specs.Gates.{ToldSince};
 ghost use Rattle.ciel_run_resumed.specs.Keeping.{KeptBy};
 ghost use Rattle.ciel_run_resumed.specs.Resuming.{FileTells, RefusesSo, Replays};
 ghost use Rattle.ciel_run_resumed.specs.declared.run.NotResumed.{NotResumed as NotResumedSeen};

@@ -16,7 +16,8 @@ ghost use Rattle.ciel_run_line.specs.Asked.{NoRunOf};
 ghost use Rattle.ciel_run_line.specs.Keeping.{KeepsLog, LogTold, header_of};
 ghost use Rattle.ciel_run_line.specs.Answering.{CanRunJob};
 ghost use Rattle.ciel_run_line.specs.Causes.{AnswersSo, WaySo};
-ghost use Rattle.ciel_run_line.specs.Given.{given_by, memo_path};
+ghost use Rattle.ciel_run_line.specs.Given.{memo_path};
+ghost use Rattle.ciel_run_line.specs.Recall.{gives_with};
 ghost use Rattle.ciel_run_line.specs.Line.{SurelyAt};
 ghost use Rattle.ciel_run_line.specs.Resuming.{OnwardTold, OwnIfRead, RefusesLog, ReplaysLog};
 ghost use Rattle.ciel_run_line.specs.Runs.{log_path};
@@ -65,10 +66,10 @@ where
     requires log { is_some log ≡ is_some line.now.resume }
     requires within { IfSome log (λ b. length b ≤ most) }
     requires memo { is_some recalled ≡ is_some (memo_path line.now) }
-    ensures answers { OwnIfRead (given_by (option_map (λ r. r.kit.entries) recalled)) line.now loaded.source (job_view loaded.job).inputs (job_view loaded.job) log
-        → AnswersSo (given_by (option_map (λ r. r.kit.entries) recalled)) line.now (map entry_view result.answered.journal.items) (job_view loaded.job) result.answered.result }
+    ensures answers { OwnIfRead (gives_with recalled) line.now loaded.source (job_view loaded.job).inputs (job_view loaded.job) log
+        → AnswersSo (gives_with recalled) line.now (map entry_view result.answered.journal.items) (job_view loaded.job) result.answered.result }
     ensures ways { WaySo line.now (map entry_view result.answered.journal.items) result.answered.result }
-    ensures refuses { IfErr result.answered.result (RefusesLog (given_by (option_map (λ r. r.kit.entries) recalled)) line.now loaded.source (job_view loaded.job) log) }
+    ensures refuses { IfErr result.answered.result (RefusesLog (gives_with recalled) line.now loaded.source (job_view loaded.job) log) }
     ensures of_other { (path bytes : List ℕ) → line.now.resume ≡ Some path → log ≡ Some bytes
         → BeginsOther bytes (header_of line.now loaded.source (job_view loaded.job).inputs)
         → (result.answered.result ≡ Err (Why.OtherJob path)) ⊎ (result.answered.result ≡ Err Why.Memory) }
@@ -76,8 +77,8 @@ where
         → SurelyAt line.now.resume (ToldBy (map entry_view result.answered.journal.items) (told_of G.entered line.now.workers gates.old.items)
         (told_of G.entered line.now.workers gates.new.items))
         (OnwardTold (λ replayed. (bytes : List ℕ) → log ≡ Some bytes
-        → OwnIfRead (given_by (option_map (λ r. r.kit.entries) recalled)) line.now loaded.source (job_view loaded.job).inputs (job_view loaded.job) log
-        → ReplaysLog (given_by (option_map (λ r. r.kit.entries) recalled)) line.now loaded.source (job_view loaded.job).inputs (job_view loaded.job) bytes replayed)
+        → OwnIfRead (gives_with recalled) line.now loaded.source (job_view loaded.job).inputs (job_view loaded.job) log
+        → ReplaysLog (gives_with recalled) line.now loaded.source (job_view loaded.job).inputs (job_view loaded.job) bytes replayed)
         (map entry_view result.answered.journal.items) (told_of G.entered line.now.workers gates.old.items)
         (told_of G.entered line.now.workers gates.new.items)) }
     ensures others { result.answered.result ≢ Err Why.Memory → drop line.now.workers gates.new.items ≡ drop line.now.workers gates.old.items }
@@ -87,9 +88,9 @@ where
     ensures keeps { KeepsLog (log_path line.now)
         (record { files = D.files keep.old; asked = D.asked keep.old; faults = D.faults keep.old })
         (record { files = D.files keep.new; asked = D.asked keep.new; faults = D.faults keep.new }) result.answered.result result.answered.state }
-    ensures logged { OwnIfRead (given_by (option_map (λ r. r.kit.entries) recalled)) line.now loaded.source (job_view loaded.job).inputs (job_view loaded.job) log
+    ensures logged { OwnIfRead (gives_with recalled) line.now loaded.source (job_view loaded.job).inputs (job_view loaded.job) log
         → (inputs : List Input) → IsOf loaded.source inputs (job_view loaded.job)
-        → LogTold (given_by (option_map (λ r. r.kit.entries) recalled)) line.now loaded.source inputs
+        → LogTold (gives_with recalled) line.now loaded.source inputs
         (map entry_view result.answered.journal.items) (D.files keep.new) result.answered.state result.answered.result }
     ensures memo { result.memo ≡ option_map (λ r. r.kept) recalled }
 {

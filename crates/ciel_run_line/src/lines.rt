@@ -18,7 +18,8 @@ ghost use Rattle.ciel_run_line.specs.Causes.{CauseOf, IfNoMemo, IfOther, NoJobBy
 ghost use Rattle.ciel_run_line.specs.Asked.{AsksFor, AsksOf, IsRead, NoRunOf, ShowsResult, StopsFor};
 ghost use Rattle.ciel_log.specs.Logging.{most};
 ghost use Rattle.ciel_run_line.specs.Gates.{GatesTell};
-ghost use Rattle.ciel_run_line.specs.Given.{BeginsWith, GivesOf, IsRecalled, given_by, memo_path};
+ghost use Rattle.ciel_run_line.specs.Given.{BeginsWith, GivesOf, IsRecalled, memo_path};
+ghost use Rattle.ciel_run_line.specs.Recall.{gives_with};
 ghost use Rattle.ciel_run_line.specs.Line.{FitsIn, OfJobFiles, OfLine, behind_job, files_of, named, paths_in};
 ghost use Rattle.ciel_run_line.specs.Keeping.{KeepsLog, LogTold};
 ghost use Rattle.ciel_run_line.specs.Runs.{EndsShown, IsDriven, log_path};
@@ -122,7 +123,7 @@ where
     ensures few { IfOk result (λ s. length (job_view s.loaded.job).inputs ≤ most_inputs) }
     ensures job { IfOk result (λ s. OfJobFiles (F.content files.old) line.now
         (λ source inputs. FitsIn (files_of line.now) source inputs × IsOf source inputs (job_view s.loaded.job) × (s.loaded.source ≡ source))) }
-    ensures given { IfOk result (λ s. (g : Gives) → GivesOf (F.content files.old) line.now g → g ≡ given_by (option_map (λ r. r.kit.entries) s.recalled)) }
+    ensures given { IfOk result (λ s. (g : Gives) → GivesOf (F.content files.old) line.now g → g ≡ gives_with s.recalled) }
     ensures kept { IfOk result (λ s. IfSome s.recalled (λ r. r.kept ≡ r.kit)) }
     ensures entries { IfOk result (λ s. IfSome s.recalled (λ r. BeginsWith (F.content files.old) line.now.memo r.kit.entries)) }
     ensures memo { IfOk result (λ s. is_some s.recalled ≡ is_some (memo_path line.now)) }

@@ -7,7 +7,8 @@ ghost use Rattle.ciel_io.specs.Tells.{Tells};
 ghost use Rattle.ciel_memo_file.specs.File.{BadAt, IsMemo};
 ghost use Rattle.ciel_words.specs.Sound.{LineIsSound};
 ghost use Rattle.ciel_run_line.specs.Answering.{AsksLast, IfBadHere, NoMemoBy, Unread as NotRead};
-ghost use Rattle.ciel_run_line.specs.Given.{BeginsWith, GivesOf, IsRecalled, given_by, memo_path};
+ghost use Rattle.ciel_run_line.specs.Given.{BeginsWith, GivesOf, IsRecalled, memo_path};
+ghost use Rattle.ciel_run_line.specs.Recall.{gives_with};
 ghost use Rattle.ciel_run_line.specs.Line.{named};
 
 use ciel_io::files::Files;
@@ -143,7 +144,7 @@ pub(crate) fn recall<F: Files, R: Wait + Drop>(
     files: &mut F,
 ) -> Result<Option<Recalled<R>>, Why>
     requires line { LineIsSound line.now }
-    ensures given { IfOk result (λ o. (g : Gives) → GivesOf (F.content files.old) line.now g → g ≡ given_by (option_map (λ r. r.kit.entries) o)) }
+    ensures given { IfOk result (λ o. (g : Gives) → GivesOf (F.content files.old) line.now g → g ≡ gives_with o) }
     ensures same { IfOk result (λ o. IfSome o (λ r. r.kept ≡ r.kit)) }
     ensures entries { IfOk result (λ o. IfSome o (λ r. BeginsWith (F.content files.old) line.now.memo r.kit.entries)) }
     ensures memo { IfOk result (λ o. is_some o ≡ is_some (memo_path line.now)) }

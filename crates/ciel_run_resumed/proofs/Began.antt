@@ -1,5 +1,5 @@
 -- From what a run makes of its keeper, whose log was put in the place of a file before, to what both make of it.
-use Rattle.std.proofs.Common.{◌≡◌, ◌≤◌, ◌+◌, ◌<◌, ℕ, suc, List, [], ◌∷◌, Option, Some, None, length, replicate, ap, arith, inl, inr, ⊎_elim}
+use Rattle.std.proofs.Common.{◌≡◌, ◌≤◌, ◌<◌, ℕ, suc, List, [], ◌∷◌, Option, Some, None, length, replicate, ap, arith, inl, inr, ⊎_elim}
 use Rattle.ciel_io.specs.Faults.{HasRisen}
 use Rattle.ciel_io.specs.HeldFiles.{bytes_at}
 use Rattle.ciel_io.specs.Kept.{Changes, Files, Replaced}

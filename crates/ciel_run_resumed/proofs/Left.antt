@@ -13,10 +13,10 @@ use Rattle.ciel_journal.specs.Entries.{Entry}
 use Rattle.ciel_journal.specs.History.{Plan}
 use Rattle.ciel_journal.specs.Job.{Digest, In, Task}
 use Rattle.ciel_journal.specs.Turns.{draw}
-use Rattle.ciel_log_file.specs.Replays.{At, EndsBy, HasReplayed, LosesDue, ReplaysRecords, ReplaysTo, TakesRecord, TakesBehind, over, takes}
+use Rattle.ciel_log_file.specs.Replays.{At, HasReplayed, LosesDue, ReplaysRecords, ReplaysTo, TakesRecord, over, takes}
 use Rattle.ciel_log_file.specs.Replays as rs
 use Rattle.ciel_log_file.specs.Sending.{CanSend, nobody, sent_to}
-use Rattle.ciel_log_replay.specs.Steps.{HasStarted, IsNextStart, LostBy, loses, stays, while_out}
+use Rattle.ciel_log_replay.specs.Steps.{LostBy, loses, stays, while_out}
 use Rattle.ciel_log_report.specs.Comes.{EndsWith, ReportStops, ReportTaken}
 use Rattle.ciel_log_read.specs.declared.record.LoggedReport.{LoggedReport}
 use Rattle.ciel_master.specs.declared.stop.RunEnd.{RunEnd}
@@ -28,11 +28,11 @@ use Rattle.ciel_master_board.specs.Reports.{End, copy_names, made, made_keys, mi
 use Rattle.ciel_master_board.proofs.DueEvents.{got_in}
 use Rattle.ciel_master_board.proofs.SoundLemmas.{idle_in, order_in}
 use Rattle.ciel_master_law.specs.Ends.{worker_of}
-use Rattle.ciel_run_resumed.specs.Gates.{LeavesOpen, tasks_at}
-use Rattle.ciel_run_resumed.specs.Open.{Begun, begun_of, open_behind, open_in, open_with, unclosed}
+use Rattle.ciel_run_onward.specs.Gates.{LeavesOpen, tasks_at}
+use Rattle.ciel_run_onward.specs.Open.{Begun, begun_of, open_behind, open_in, open_with, unclosed}
 use Rattle.ciel_run_resumed.proofs.OrdersBy.{at_below, at_in, at_other, at_set, at_worker, begun_out, but_at, filter_more, filter_swap, found}
 use Rattle.ciel_run_resumed.proofs.OrdersBy.{found_number, has, idle_has_none, in_at, it_goes, nobody_has, nobody_many, none_at_it}
-use Rattle.ciel_run_resumed.proofs.OrdersBy.{other_stays, same_at_others, sent_tasks, set_long, tasks_are, tasks_of, unequal}
+use Rattle.ciel_run_resumed.proofs.OrdersBy.{other_stays, same_at_others, sent_tasks, set_long, tasks_are, tasks_of}
 use Rattle.ciel_store.specs.Seen.{ShelvesSeen}
 use Rattle.ciel_table.specs.Seen.{last_wait}
 use Rattle.ciel_task_crew.specs.Crews.{order_at}

@@ -4,8 +4,6 @@ pub mod Began
 mod Standing
 mod Alone
 mod Onward
-mod Continued
 mod Opened
-mod Sent
 mod OrdersBy
 mod Left

@@ -9,7 +9,7 @@ use Rattle.ciel_log_law.specs.Kept.{Kept}
 use Rattle.ciel_log_law.specs.RunEnd.{RunEnd}
 use Rattle.ciel_log_law.specs.Seen.{MasterSeen}
 use Rattle.ciel_log_replay.specs.Between.{Between}
-use Rattle.ciel_run_resumed.specs.Resuming.{Stood, WorksOn}
+use Rattle.ciel_run_onward.specs.Onward.{Stood, WorksOn}
 use Rattle.ciel_run_resumed.specs.declared.run.NotResumed.{NotResumed}
 use Rattle.ciel_task_order.specs.declared.order.Order.{Order}
 use Rattle.ciel_task_order.specs.declared.shop.Shop.{Shop}

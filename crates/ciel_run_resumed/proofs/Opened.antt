@@ -1,10 +1,9 @@
--- What was opened is the job's and the plan's, and its workers have no order; and a run stays as it ended, or wants memory for its gates.
-use Rattle.std.proofs.Common.{◌≡◌, ◌⊎◌, ℕ, List, [], Option, None, true, inl, inr, replicate, sym, ap, subst}
+-- What was opened is the job's and the plan's; and a run stays as it ended, or wants memory for its gates.
+use Rattle.std.proofs.Common.{◌≡◌, ◌⊎◌, ℕ, List, [], true, inl, inr, sym, ap, subst}
 use Rattle.sky_base.specs.JobView.{job_view}
 use Rattle.sky_base.specs.KitView.{Gives}
 use Rattle.sky_base.specs.See as s
 use Rattle.sky_base.specs.declared.job.Job.{Job}
-use Rattle.sky_base.specs.declared.object.TaskId.{TaskId}
 use Rattle.sky_parse_law.specs.Orderly.{FunctionsAreOrderly}
 use Rattle.ciel_journal.specs.Entries.{Entry}
 use Rattle.ciel_journal.specs.History.{Plan}
@@ -15,26 +14,13 @@ use Rattle.ciel_log_law.specs.RunEnd.{RunEnd}
 use Rattle.ciel_log_law.specs.Seen.{MasterSeen, plan_view}
 use Rattle.ciel_log_law.specs.Working.{Working}
 use Rattle.ciel_master.specs.declared.plan.RunPlan.{RunPlan}
-use Rattle.ciel_run_drive.specs.TaskCrewSeen.{CrewSeen}
 use Rattle.ciel_run_job.proofs.Began.{kept_at_first, working_at_first}
 use Rattle.ciel_run_job.specs.Onward.{IsRead}
 use Rattle.ciel_run_job.specs.Opened.{IsOpened, ShopOf}
 use Rattle.ciel_run_logged.specs.Keeping.{IfOver}
 use Rattle.ciel_store.specs.Seen.{SeatSeen}
 use Rattle.ciel_task_order.specs.Shop.{InputsInOrder}
-use Rattle.ciel_task_order.specs.declared.order.Order.{Order}
 use Rattle.ciel_task_order.specs.declared.shop.Shop.{Shop}
-
--- ---- the crew
-
-module _ {K N : Type 0} (shop : Shop K N) (workers many : ℕ) (told : List (Option (List TaskId))) (same : many ≡ workers) (crew : CrewSeen K N)
-    (is : crew ≡ record { shop = shop; out = replicate many None; told = told; sound = true }) where
-  -- what is so of its shop and of so many workers without an order is so of the crew
-  pub of_crew : (P : Shop K N → List (Option Order) → Type 0) → P shop (nobody workers) → P crew.shop crew.out
-  of_crew P p = subst (λ (c : CrewSeen K N). P c.shop c.out) (sym is) (subst (λ (n : ℕ). P shop (nobody n)) (sym same) p)
-
-  pub of_shop : (P : Shop K N → List (Option Order) → Type 0) → P crew.shop crew.out → P shop (nobody workers)
-  of_shop P p = subst (λ (n : ℕ). P shop (nobody n)) same (subst (λ (c : CrewSeen K N). P c.shop c.out) is p)
 
 -- ---- the master
 

@@ -1,5 +1,5 @@
 -- Orders by worker: those of the board, those that workers have, and those that are to be sent.
-use Rattle.std.proofs.Common.{◌≡◌, ◌<◌, ◌⊎◌, ◌∙◌, ℕ, zero, suc, List, [], ◌∷◌, ◌++◌, Bool, true, false, ◌||◌, cond, not, filter, length, map, nat_eq}
+use Rattle.std.proofs.Common.{◌≡◌, ◌<◌, ◌∙◌, ℕ, zero, suc, List, [], ◌∷◌, ◌++◌, Bool, true, false, ◌||◌, cond, not, filter, length, map, nat_eq}
 use Rattle.std.proofs.Common.{is_some, slice_set, Option, Some, None, eqb-true, eq-eqb, inl, inr, refl, sym, ap, subst, arith}
 use Rattle.std.proofs.lemmas.List.{append-nil}
 use Rattle.std.specs.List.{list_any}
@@ -8,8 +8,8 @@ use Rattle.ciel_journal.specs.Job.{Digest, In, Task}
 use Rattle.ciel_log_file.specs.Sending.{CanSend, nobody, sent_to}
 use Rattle.ciel_master_board.specs.Board.{OrderOut, find_order, task_key, workers_out}
 use Rattle.ciel_master_board.specs.Moves.{without}
-use Rattle.ciel_run_resumed.specs.Gates.{tasks_at}
-use Rattle.ciel_run_resumed.specs.Open.{Begun, begun_of}
+use Rattle.ciel_run_onward.specs.Gates.{tasks_at}
+use Rattle.ciel_run_onward.specs.Open.{Begun, begun_of}
 use Rattle.ciel_task_crew.specs.Crews.{order_at}
 use Rattle.ciel_task_order.specs.Views.{out_view}
 use Rattle.ciel_task_order.specs.declared.order.Order.{Order}

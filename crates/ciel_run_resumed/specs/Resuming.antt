@@ -1,27 +1,20 @@
--- What a run that goes on from a log promises: where it goes on from, which entries its journal begins with, and what its file tells then.
-use Rattle.std.specs.Prelude.{◌≡◌, ◌≤◌, ◌∷◌, [], ℕ, zero, suc, List, Option, Some, None, IfSome, Bool, true, length, take}
+-- What a run that goes on from a log promises: which entries its journal begins with, what its file tells then, and how it is refused.
+use Rattle.std.specs.Prelude.{◌≡◌, ◌≤◌, ◌∷◌, [], ℕ, zero, suc, List, Option, IfSome, length, take}
 use Rattle.sky_base.specs.KitView.{Gives}
 use Rattle.sky_base.specs.See as s
 use Rattle.ciel_io.specs.HeldFiles.{bytes_at}
 use Rattle.ciel_io.specs.Kept.{Changes, Files, Replaced}
 use Rattle.ciel_journal.specs.Entries.{Entry}
 use Rattle.ciel_journal.specs.History.{Plan}
-use Rattle.ciel_log_follows.specs.Begins.{BeginsLog, IsTold}
+use Rattle.ciel_log_follows.specs.Begins.{IsTold}
 use Rattle.ciel_log_file.specs.Whole.{IsWhole}
-use Rattle.ciel_log_law.specs.Ended.{Ended}
-use Rattle.ciel_log_law.specs.Kept.{Kept}
 use Rattle.ciel_log_law.specs.Logs.{FullAt, HasDropped, Logs, WrittenPart}
 use Rattle.ciel_log_law.specs.LogState.{LogState}
-use Rattle.ciel_log_law.specs.RunEnd.{RunEnd}
-use Rattle.ciel_log_law.specs.Seen.{MasterSeen}
-use Rattle.ciel_log_law.specs.Working.{Working}
 use Rattle.ciel_log_records.specs.Records.{in_file}
 use Rattle.ciel_io.specs.Faults.{HasRisen}
 use Rattle.ciel_io.specs.Tells.{Tells}
 use Rattle.ciel_run_logged.specs.Keeping.{KeeperSeen}
 use Rattle.ciel_run_resumed.specs.declared.run.NotResumed.{NotResumed}
-use Rattle.ciel_task_order.specs.declared.order.Order.{Order}
-use Rattle.ciel_task_order.specs.declared.shop.Shop.{Shop}
 
 -- what stands in the file once it is begun again: its whole records, or the header where there are none
 abbrev pub standing_bytes : (header log : List ℕ) → (whole : ℕ) → List ℕ
@@ -41,20 +34,6 @@ module _ (digest : List ℕ → List ℕ) (job : s.Job) (gives : Gives) (p : Pla
       → WrittenPart digest job gives p header journal (state ≡ LogState.Failed) (bytes_at fs path)
       × (state ≡ LogState.Whole → Logs digest job gives p header journal (bytes_at fs path))
       × ((has : ℕ) → state ≡ LogState.Full has → FullAt digest job gives p header journal has (bytes_at fs path)))
-
--- ---- where a run goes on from
-
--- for each kit what it gives, and for each namer its digest: of a master of this shop, the orders that workers have, and the end of the log
-module _ {K N : Type 0} (gives : K → Gives) (digest : N → List ℕ → List ℕ) (shop : Shop K N) (m : MasterSeen N) (out : List (Option Order)) where
-  -- where the log has no end the master is at work with them
-  abbrev pub WorksOn : Option RunEnd → Type 0
-  WorksOn None = Working gives digest shop true m out
-  WorksOn (Some end) = Unit {0}
-
-  -- where it has none they follow a history of the job; and an end has its cause
-  abbrev pub Stood : Option RunEnd → (draws : ℕ) → Type 0
-  Stood None draws = Kept gives digest shop true m out draws
-  Stood (Some end) draws = Ended gives digest shop m.board.plan m.board.journal end
 
 -- ---- the file of the log, begun again
 

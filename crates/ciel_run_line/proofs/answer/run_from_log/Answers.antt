@@ -10,7 +10,7 @@ use Rattle.ciel_master.specs.declared.stop.RunEnd.{RunEnd}
 use Rattle.ciel_run_logged.specs.Ended.{EndsSo}
 use Rattle.ciel_run_logged.specs.Keeping.{IfOver}
 use Rattle.ciel_run_logged.specs.Told.{told_of}
-use Rattle.ciel_run_resumed.specs.Gates.{ToldSince}
+use Rattle.ciel_run_onward.specs.Gates.{ToldSince}
 use Rattle.ciel_run_resumed.specs.Resuming.{FileTells, Replays}
 use Rattle.ciel_run_resumed.specs.declared.run.NotResumed.{NotResumed}
 use Rattle.ciel_words.specs.declared.words.NameKind.{NameKind}

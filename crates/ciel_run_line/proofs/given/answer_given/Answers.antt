@@ -12,7 +12,7 @@ use Rattle.ciel_run_load.specs.Loading.{IsOf}
 use Rattle.ciel_run_log.specs.declared.why.Why.{Why}
 use Rattle.ciel_run_logged.specs.Told.{ToldBy, told_of}
 use Rattle.ciel_run_line.specs.Causes.{AnswersSo}
-use Rattle.ciel_run_line.specs.Given.{given_by}
+use Rattle.ciel_run_line.specs.Recall.{gives_with}
 use Rattle.ciel_run_line.specs.Keeping.{LogTold}
 use Rattle.ciel_run_line.specs.Line.{SurelyAt}
 use Rattle.ciel_run_line.specs.Resuming.{OnwardTold, OwnIfRead, RefusesLog, ReplaysLog}
@@ -42,7 +42,7 @@ returns-in_default-clause-answers g c =
     let source = c.args.loaded.source in
     let job = job_view c.args.loaded.job in
     let log = c.args.log in
-    let so = ap (λ (o : Option (Recalled g.row.R.Denot)). given_by (option_map (λ (r : Recalled g.row.R.Denot). r.kit.entries) o)) c.in_default.is in
+    let so = ap (λ (o : Option (Recalled g.row.R.Denot)). gives_with o) c.in_default.is in
     subst (λ (e : Gives). OwnIfRead e w source job.inputs job log → AnswersSo e w (map entry_view c.answer.result.journal.items) job c.answer.result.result) (sym so)
     c.answer.ensures.answers
 
@@ -52,7 +52,7 @@ returns-in_default-clause-refuses g c =
     let source = c.args.loaded.source in
     let job = job_view c.args.loaded.job in
     let log = c.args.log in
-    let so = ap (λ (o : Option (Recalled g.row.R.Denot)). given_by (option_map (λ (r : Recalled g.row.R.Denot). r.kit.entries) o)) c.in_default.is in
+    let so = ap (λ (o : Option (Recalled g.row.R.Denot)). gives_with o) c.in_default.is in
     subst (λ (e : Gives). IfErr c.answer.result.result (RefusesLog e w source job log)) (sym so) c.answer.ensures.refuses
 
 pub returns-in_default-clause-told : goal.returns-in_default-clause-told
@@ -61,7 +61,7 @@ returns-in_default-clause-told g c =
     let source = c.args.loaded.source in
     let job = job_view c.args.loaded.job in
     let log = c.args.log in
-    let so = ap (λ (o : Option (Recalled g.row.R.Denot)). given_by (option_map (λ (r : Recalled g.row.R.Denot). r.kit.entries) o)) c.in_default.is in
+    let so = ap (λ (o : Option (Recalled g.row.R.Denot)). gives_with o) c.in_default.is in
     let J = map entry_view c.answer.result.journal.items in
     let before = told_of g.G.Gate.entered w.workers c.args.gates.now.items in
     let now = told_of g.G.Gate.entered w.workers c.answer.new.gates.items in
@@ -75,7 +75,7 @@ returns-in_default-clause-logged g c =
     let source = c.args.loaded.source in
     let job = job_view c.args.loaded.job in
     let log = c.args.log in
-    let so = ap (λ (o : Option (Recalled g.row.R.Denot)). given_by (option_map (λ (r : Recalled g.row.R.Denot). r.kit.entries) o)) c.in_default.is in
+    let so = ap (λ (o : Option (Recalled g.row.R.Denot)). gives_with o) c.in_default.is in
     subst (λ (e : Gives). OwnIfRead e w source job.inputs job log → (inputs : List Input) → IsOf source inputs job
     → LogTold e w source inputs (map entry_view c.answer.result.journal.items) (g.D.Keep.files c.answer.new.keep) c.answer.result.state c.answer.result.result)
     (sym so) c.answer.ensures.logged
@@ -86,7 +86,7 @@ returns-clause-answers g c =
     let source = c.args.loaded.source in
     let job = job_view c.args.loaded.job in
     let log = c.args.log in
-    let so = ap (λ (o : Option (Recalled g.row.R.Denot)). given_by (option_map (λ (r : Recalled g.row.R.Denot). r.kit.entries) o)) c.in-Some.is in
+    let so = ap (λ (o : Option (Recalled g.row.R.Denot)). gives_with o) c.in-Some.is in
     subst (λ (e : Gives). OwnIfRead e w source job.inputs job log → AnswersSo e w (map entry_view c.answer-2.result.journal.items) job c.answer-2.result.result) (sym so)
     c.answer-2.ensures.answers
 
@@ -96,7 +96,7 @@ returns-clause-refuses g c =
     let source = c.args.loaded.source in
     let job = job_view c.args.loaded.job in
     let log = c.args.log in
-    let so = ap (λ (o : Option (Recalled g.row.R.Denot)). given_by (option_map (λ (r : Recalled g.row.R.Denot). r.kit.entries) o)) c.in-Some.is in
+    let so = ap (λ (o : Option (Recalled g.row.R.Denot)). gives_with o) c.in-Some.is in
     subst (λ (e : Gives). IfErr c.answer-2.result.result (RefusesLog e w source job log)) (sym so) c.answer-2.ensures.refuses
 
 pub returns-clause-told : goal.returns-clause-told
@@ -105,7 +105,7 @@ returns-clause-told g c =
     let source = c.args.loaded.source in
     let job = job_view c.args.loaded.job in
     let log = c.args.log in
-    let so = ap (λ (o : Option (Recalled g.row.R.Denot)). given_by (option_map (λ (r : Recalled g.row.R.Denot). r.kit.entries) o)) c.in-Some.is in
+    let so = ap (λ (o : Option (Recalled g.row.R.Denot)). gives_with o) c.in-Some.is in
     let J = map entry_view c.answer-2.result.journal.items in
     let before = told_of g.G.Gate.entered w.workers c.args.gates.now.items in
     let now = told_of g.G.Gate.entered w.workers c.answer-2.new.gates.items in
@@ -119,7 +119,7 @@ returns-clause-logged g c =
     let source = c.args.loaded.source in
     let job = job_view c.args.loaded.job in
     let log = c.args.log in
-    let so = ap (λ (o : Option (Recalled g.row.R.Denot)). given_by (option_map (λ (r : Recalled g.row.R.Denot). r.kit.entries) o)) c.in-Some.is in
+    let so = ap (λ (o : Option (Recalled g.row.R.Denot)). gives_with o) c.in-Some.is in
     subst (λ (e : Gives). OwnIfRead e w source job.inputs job log → (inputs : List Input) → IsOf source inputs job
     → LogTold e w source inputs (map entry_view c.answer-2.result.journal.items) (g.D.Keep.files c.answer-2.new.keep) c.answer-2.result.state c.answer-2.result.result)
     (sym so) c.answer-2.ensures.logged

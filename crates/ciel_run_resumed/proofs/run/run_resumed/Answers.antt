@@ -20,9 +20,9 @@ use Rattle.ciel_run_job.proofs.Lent.{all_back, others_back, still}
 use Rattle.ciel_run_job.specs.Onward.{IsRead}
 use Rattle.ciel_run_job.specs.Told.{told_of}
 use Rattle.ciel_run_logged.specs.Keeping.{IfOver, KeeperSeen, Keeps}
-use Rattle.ciel_run_resumed.specs.Gates.{ToldSince}
-use Rattle.ciel_run_resumed.specs.Resuming.{BegunWith, FileTells, Replays, Stood, WorksOn}
-use Rattle.ciel_run_resumed.specs.declared.run.NotResumed.{NotResumed}
+use Rattle.ciel_run_onward.specs.Gates.{ToldSince}
+use Rattle.ciel_run_resumed.specs.Resuming.{BegunWith, FileTells, Replays}
+use Rattle.ciel_run_onward.specs.Onward.{Stood, WorksOn}
 use Rattle.ciel_run_resumed.proofs.Began.{kept_by}
 use Rattle.ciel_run_resumed.proofs.Onward.{handed_on}
 use Rattle.ciel_run_resumed.proofs.Opened.{at_first, ends_still, from_first, kept_first, nothing_yet, over_still, plan_is, works_first}
@@ -48,25 +48,25 @@ go_back-requires-clause-first g c =
     nothing_yet g.K.Kit.gives g.N.Namer.digest (arc_value c.in-Ok.opened.shop) c.args.plan c.in-Ok.opened.master c.in-Ok.opened.eyes.items
     c.in-Ok.ensures.opened
 
-pub on_crew-logged-requires-clause-hands : goal.on_crew-logged-requires-clause-hands
-on_crew-logged-requires-clause-hands g c κs within =
+pub run_onward-logged-requires-clause-hands : goal.run_onward-logged-requires-clause-hands
+run_onward-logged-requires-clause-hands g c κs within =
     subst (λ k. IsFor (g.K.Kit.gives k) c.args.hands) (sym c.in-Ok.ensures.shop.kit_is) c.requires.hands
 
-pub on_crew-logged-requires-clause-read : goal.on_crew-logged-requires-clause-read
-on_crew-logged-requires-clause-read g c κs within = subst (λ j. IsRead (job_view j).script) (sym c.in-Ok.ensures.shop.job_is) c.requires.read
+pub run_onward-logged-requires-clause-read : goal.run_onward-logged-requires-clause-read
+run_onward-logged-requires-clause-read g c κs within = subst (λ j. IsRead (job_view j).script) (sym c.in-Ok.ensures.shop.job_is) c.requires.read
 
-pub on_crew-logged-requires-clause-takes : goal.on_crew-logged-requires-clause-takes
-on_crew-logged-requires-clause-takes g c κs within =
+pub run_onward-logged-requires-clause-takes : goal.run_onward-logged-requires-clause-takes
+run_onward-logged-requires-clause-takes g c κs within =
     subst (λ s. Each (Takes g.K.Kit.gives g.N.Namer.digest s) c.in_ok-onward.onward.out.items) c.deref.ensures c.in_ok-onward.ensures.takes
 
-pub on_crew-logged-requires-clause-sends : goal.on_crew-logged-requires-clause-sends
-on_crew-logged-requires-clause-sends g c κs within =
+pub run_onward-logged-requires-clause-sends : goal.run_onward-logged-requires-clause-sends
+run_onward-logged-requires-clause-sends g c κs within =
     subst (λ p. CanSend (nobody p.workers) c.in_ok-onward.onward.out.items)
     (plan_is g.K.Kit.gives g.N.Namer.digest (arc_value c.in-Ok.opened.shop) c.args.plan c.in-Ok.opened.master c.in-Ok.opened.eyes.items
     c.in-Ok.ensures.opened ∙ ap plan_view (sym c.of-planned.ensures)) c.in_ok-onward.ensures.sends
 
-pub on_crew-logged-requires-clause-works : goal.on_crew-logged-requires-clause-works
-on_crew-logged-requires-clause-works g c κs within =
+pub run_onward-logged-requires-clause-works : goal.run_onward-logged-requires-clause-works
+run_onward-logged-requires-clause-works g c κs within =
     let o = c.in_ok-onward.onward in
     subst (λ p. WorksOn g.K.Kit.gives g.N.Namer.digest (arc_value c.in-Ok.opened.shop) c.go_back.new.master
     (sent_to (nobody p.workers) o.out.items) o.end)
@@ -75,8 +75,8 @@ on_crew-logged-requires-clause-works g c κs within =
     (subst (λ s. WorksOn g.K.Kit.gives g.N.Namer.digest s c.go_back.new.master
     (sent_to (nobody c.in-Ok.opened.master.board.plan.workers) o.out.items) o.end) c.deref.ensures c.in_ok-onward.ensures.works)
 
-pub on_crew-logged-requires-clause-plan : goal.on_crew-logged-requires-clause-plan
-on_crew-logged-requires-clause-plan g c κs within = c.in_ok-onward.ensures.plan ∙ (plan_is g.K.Kit.gives g.N.Namer.digest (arc_value c.in-Ok.opened.shop) c.args.plan c.in-Ok.opened.master c.in-Ok.opened.eyes.items
+pub run_onward-logged-requires-clause-plan : goal.run_onward-logged-requires-clause-plan
+run_onward-logged-requires-clause-plan g c κs within = c.in_ok-onward.ensures.plan ∙ (plan_is g.K.Kit.gives g.N.Namer.digest (arc_value c.in-Ok.opened.shop) c.args.plan c.in-Ok.opened.master c.in-Ok.opened.eyes.items
     c.in-Ok.ensures.opened ∙ ap plan_view (sym c.of-planned.ensures))
 
 -- a log that is refused
@@ -111,7 +111,7 @@ returns-clause-end g c = λ begins.
     let then = c.go_back.new.master in
     let o = c.in_ok-onward.onward in
     let of = c.in-Ok.ensures.shop in
-    let ran = c.on_crew-logged.result.0.ran in
+    let ran = c.run_onward-logged.result.0.ran in
     let J = map entry_view ran.journal.items in
     let log = c.args.resumes.log.now in
     let header = c.args.resumes.header.now in
@@ -134,7 +134,7 @@ returns-clause-end g c = λ begins.
     (from_first g.K.Kit.gives g.N.Namer.digest shop c.args.plan m eyes c.in-Ok.ensures.opened c.args.job c.args.kit c.args.namer of
     (λ d j x p. EndsSo d j x p J ran.end)
     (subst (λ p. EndsSo (g.N.Namer.digest shop.namer) (job_view shop.job) (g.K.Kit.gives shop.kit) p J ran.end) (sym plan)
-    (c.on_crew-logged.ensures.end stood))))
+    (c.run_onward-logged.ensures.end stood))))
 
 pub returns-clause-told : goal.returns-clause-told
 returns-clause-told g c = λ some.
@@ -144,7 +144,7 @@ returns-clause-told g c = λ some.
     let then = c.go_back.new.master in
     let o = c.in_ok-onward.onward in
     let of = c.in-Ok.ensures.shop in
-    let ran = c.on_crew-logged.result.0.ran in
+    let ran = c.run_onward-logged.result.0.ran in
     let J = map entry_view ran.journal.items in
     let log = c.args.resumes.log.now in
     let header = c.args.resumes.header.now in
@@ -158,11 +158,11 @@ returns-clause-told g c = λ some.
     → BeginsLog (g.N.Namer.digest s.namer) (job_view s.job) (g.K.Kit.gives s.kit) m.board.plan header log
     → Replays (g.N.Namer.digest s.namer) (job_view s.job) (g.K.Kit.gives s.kit) m.board.plan header log R) c.deref.ensures
     c.in_ok-onward.ensures.replayed in
-    let told = c.on_crew-logged.ensures.told over in
+    let told = c.run_onward-logged.ensures.told over in
     let is_own : c.replace-own.result.items ≡ take c.args.plan.workers c.args.gates.now.items =
     ap (λ gs. gs.items) c.replace-own.ensures.value ∙ c.in-Ok-set_aside.ensures.first in
-    let many : length c.on_crew-logged.result.1.items ≡ c.args.plan.workers =
-    since_many g.G.Gate.entered R J c.replace-own.result.items c.on_crew-logged.result.1.items told
+    let many : length c.run_onward-logged.result.1.items ≡ c.args.plan.workers =
+    since_many g.G.Gate.entered R J c.replace-own.result.items c.run_onward-logged.result.1.items told
     ∙ ap length is_own ∙ length-take-le c.args.plan.workers c.args.gates.now.items c.requires.gates in (
       R,
       λ begins. from_first g.K.Kit.gives g.N.Namer.digest shop c.args.plan m eyes c.in-Ok.ensures.opened c.args.job c.args.kit c.args.namer of
@@ -173,7 +173,7 @@ returns-clause-told g c = λ some.
           (told_of g.G.Gate.entered c.args.plan.workers c.put_back-ran.result.1.items))
           (sym (ap (λ j. map entry_view j.items) c.put_back-ran.ensures.journal))
           (since_back g.G.Gate.entered c.args.plan.workers c.args.gates.now.items c.replace-own.result.items c.in-Ok-set_aside.others.items
-          c.on_crew-logged.result.1.items c.put_back-ran.result.1.items is_own many (c.put_back-ran.ensures.gates some) R J told),
+          c.run_onward-logged.result.1.items c.put_back-ran.result.1.items is_own many (c.put_back-ran.ensures.gates some) R J told),
     )
 
 pub returns-clause-written : goal.returns-clause-written
@@ -184,7 +184,7 @@ returns-clause-written g c = λ begins.
     let then = c.go_back.new.master in
     let o = c.in_ok-onward.onward in
     let of = c.in-Ok.ensures.shop in
-    let ran = c.on_crew-logged.result.0.ran in
+    let ran = c.run_onward-logged.result.0.ran in
     let J = map entry_view ran.journal.items in
     let log = c.args.resumes.log.now in
     let header = c.args.resumes.header.now in
@@ -214,12 +214,12 @@ returns-clause-written g c = λ begins.
     } in
     let now : KeeperSeen =
     record {
-      files = g.D.Keep.files c.on_crew-logged.new.keep;
-      asked = g.D.Keep.asked c.on_crew-logged.new.keep;
-      faults = g.D.Keep.faults c.on_crew-logged.new.keep;
+      files = g.D.Keep.files c.run_onward-logged.new.keep;
+      asked = g.D.Keep.asked c.run_onward-logged.new.keep;
+      faults = g.D.Keep.faults c.run_onward-logged.new.keep;
     } in
     let R = then.board.journal in
-    let state = c.on_crew-logged.result.0.state in
+    let state = c.run_onward-logged.result.0.state in
     let path = c.args.resumes.path in
     let made = subst (λ s. BegunWith path old begun o.log.held
     (λ bytes. Kept g.K.Kit.gives g.N.Namer.digest s true m (nobody m.board.plan.workers) m.board.plan.seed
@@ -236,13 +236,13 @@ returns-clause-written g c = λ begins.
       never_falls = made.never_falls;
     } in
     let keeps : ran.end ≢ RunEnd.Memory → Keeps path o.log.held begun now state =
-    (λ some. subst (λ (q : List ℕ). Keeps q o.log.held begun now state) c.in_ok-onward.ensures.path (c.on_crew-logged.ensures.keeps some)) in
+    (λ some. subst (λ (q : List ℕ). Keeps q o.log.held begun now state) c.in_ok-onward.ensures.path (c.run_onward-logged.ensures.keeps some)) in
     let went : IfOver ran.end (LogContinued (g.N.Namer.digest shop.namer) (job_view shop.job) (g.K.Kit.gives shop.kit) m.board.plan path o.log.held
     begun.files now.files R J state) =
     subst (λ (q : List ℕ). IfOver ran.end (LogContinued (g.N.Namer.digest shop.namer) (job_view shop.job) (g.K.Kit.gives shop.kit) m.board.plan q
     o.log.held begun.files now.files R J state)) c.in_ok-onward.ensures.path
     (subst (λ p. IfOver ran.end (LogContinued (g.N.Namer.digest shop.namer) (job_view shop.job) (g.K.Kit.gives shop.kit) p o.log.path o.log.held
-    begun.files now.files R J state)) (sym plan) (c.on_crew-logged.ensures.written stood)) in
+    begun.files now.files R J state)) (sym plan) (c.run_onward-logged.ensures.written stood)) in
     let tells = file_tells (g.N.Namer.digest shop.namer) (job_view shop.job) (g.K.Kit.gives shop.kit) m.board.plan path header R J state o.log.held
     old begun now there ran.end keeps went in
     subst (λ (es : List Entry). IfOver c.put_back-ran.result.0.end (FileTells (g.N.Namer.digest c.args.namer) (job_view c.args.job)
@@ -258,8 +258,8 @@ returns-clause-written g c = λ begins.
 pub returns-clause-keeps : goal.returns-clause-keeps
 returns-clause-keeps g c = λ some.
     let o = c.in_ok-onward.onward in
-    let ran = c.on_crew-logged.result.0.ran in
-    let state = c.on_crew-logged.result.0.state in
+    let ran = c.run_onward-logged.result.0.ran in
+    let state = c.run_onward-logged.result.0.state in
     let path = c.args.resumes.path in
     let old : KeeperSeen =
     record {
@@ -275,33 +275,33 @@ returns-clause-keeps g c = λ some.
     } in
     let now : KeeperSeen =
     record {
-      files = g.D.Keep.files c.on_crew-logged.new.keep;
-      asked = g.D.Keep.asked c.on_crew-logged.new.keep;
-      faults = g.D.Keep.faults c.on_crew-logged.new.keep;
+      files = g.D.Keep.files c.run_onward-logged.new.keep;
+      asked = g.D.Keep.asked c.run_onward-logged.new.keep;
+      faults = g.D.Keep.faults c.run_onward-logged.new.keep;
     } in
     let made = c.in_ok-onward.ensures.begun in
     kept_by path made.bytes old begun now made.put made.never_falls made.asked o.log.held made.size state
     (subst (λ (q : List ℕ). Keeps q o.log.held begun now state) c.in_ok-onward.ensures.path
-    (c.on_crew-logged.ensures.keeps (still _ _ c.put_back-ran.ensures.end some)))
+    (c.run_onward-logged.ensures.keeps (still _ _ c.put_back-ran.ensures.end some)))
 
 pub returns-clause-others : goal.returns-clause-others
 returns-clause-others g c =
     let R = c.go_back.new.master.board.journal in
-    let ran = c.on_crew-logged.result.0.ran in
+    let ran = c.run_onward-logged.result.0.ran in
     others_back g.G.Gate.entered c.args.plan.workers c.args.gates.now.items c.replace-own.result.items c.in-Ok-set_aside.others.items
-    c.on_crew-logged.result.1.items c.put_back-ran.result.1.items
+    c.run_onward-logged.result.1.items c.put_back-ran.result.1.items
     (ap (λ gs. gs.items) c.replace-own.ensures.value ∙ c.in-Ok-set_aside.ensures.first) c.in-Ok-set_aside.ensures.others c.requires.gates ran.end
     c.put_back-ran.result.0.end c.put_back-ran.ensures.end c.put_back-ran.ensures.gates
-    (λ some. since_many g.G.Gate.entered R (map entry_view ran.journal.items) c.replace-own.result.items c.on_crew-logged.result.1.items
-    (c.on_crew-logged.ensures.told some))
+    (λ some. since_many g.G.Gate.entered R (map entry_view ran.journal.items) c.replace-own.result.items c.run_onward-logged.result.1.items
+    (c.run_onward-logged.ensures.told some))
 
 pub returns-clause-all : goal.returns-clause-all
 returns-clause-all g c =
     let R = c.go_back.new.master.board.journal in
-    let ran = c.on_crew-logged.result.0.ran in
+    let ran = c.run_onward-logged.result.0.ran in
     all_back g.G.Gate.entered c.args.plan.workers c.args.gates.now.items c.replace-own.result.items c.in-Ok-set_aside.others.items
-    c.on_crew-logged.result.1.items c.put_back-ran.result.1.items
+    c.run_onward-logged.result.1.items c.put_back-ran.result.1.items
     (ap (λ gs. gs.items) c.replace-own.ensures.value ∙ c.in-Ok-set_aside.ensures.first) c.in-Ok-set_aside.ensures.others c.requires.gates ran.end
     c.put_back-ran.result.0.end c.put_back-ran.ensures.end c.put_back-ran.ensures.gates
-    (λ some. since_many g.G.Gate.entered R (map entry_view ran.journal.items) c.replace-own.result.items c.on_crew-logged.result.1.items
-    (c.on_crew-logged.ensures.told some))
+    (λ some. since_many g.G.Gate.entered R (map entry_view ran.journal.items) c.replace-own.result.items c.run_onward-logged.result.1.items
+    (c.run_onward-logged.ensures.told some))

@@ -1,11 +1,11 @@
 -- Each order that is sent is one more that the crew has, and one less that is left.
-use Rattle.std.proofs.Common.{◌≡◌, ◌∙◌, List, [], ap, length, refl, subst, sym}
+use Rattle.std.proofs.Common.{◌≡◌, ◌∙◌, List, ap, length, refl, subst, sym}
 use Rattle.ciel_journal.specs.Job.{Each}
 use Rattle.ciel_log_file.specs.Sending.{CanSend, sent_to}
-use Rattle.ciel_run_resumed.proofs.Told.{SentSo, all_sent, none_left, none_sent, one_sent}
+use Rattle.ciel_run_onward.proofs.Told.{SentSo, all_sent, none_left, none_sent, one_sent}
 use Rattle.ciel_task_crew.specs.Crews.{Takes}
 use Rattle.ciel_task_order.specs.declared.order.Order.{Order}
-use Rattle.ciel_run_resumed.proofs.gates.send_all.Goals as goal
+use Rattle.ciel_run_onward.proofs.gates.send_all.Goals as goal
 
 pub loop-order-init : goal.loop-order-init
 loop-order-init g c =

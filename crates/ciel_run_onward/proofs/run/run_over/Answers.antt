@@ -1,5 +1,5 @@
 -- The orders that were out are sent; then the run ends as its log does, or is driven on.
-use Rattle.std.proofs.Common.{◌≡◌, List, Option, Some, None, map, sym, subst}
+use Rattle.std.proofs.Common.{List, Some, None, map, sym, subst}
 use Rattle.sky_base.specs.JobView.{job_view}
 use Rattle.ciel_journal.specs.Entries.{Entry}
 use Rattle.ciel_log_file.specs.Sending.{sent_to}
@@ -11,11 +11,10 @@ use Rattle.ciel_log_law.specs.Told.{LogContinued}
 use Rattle.ciel_log_law.specs.Views.{entry_view}
 use Rattle.ciel_log_law.specs.Working.{Working}
 use Rattle.ciel_run_logged.specs.Keeping.{IfOver, KeeperSeen, Keeps}
-use Rattle.ciel_run_resumed.proofs.Alone.{stood_memory}
-use Rattle.ciel_run_resumed.proofs.Sent.{ends_as, of_sent, stood_at, works_none}
-use Rattle.ciel_run_resumed.proofs.Told.{since, since_none}
-use Rattle.ciel_run_resumed.proofs.Written.{kept_same, over_any, untouched}
-use Rattle.ciel_run_resumed.proofs.run.run_over.Goals as goal
+use Rattle.ciel_run_onward.proofs.Sent.{ends_as, of_sent, stood_at, stood_memory, works_none}
+use Rattle.ciel_run_onward.proofs.Told.{since, since_none}
+use Rattle.ciel_run_onward.proofs.Written.{kept_same, over_any, untouched}
+use Rattle.ciel_run_onward.proofs.run.run_over.Goals as goal
 
 -- there was no memory to send them
 

@@ -1,10 +1,10 @@
 //! The orders that were out are sent again.
 
-ghost use Rattle.std.specs.Prelude.{◌≡◌, IfOk, OnOk, map, true};
+ghost use Rattle.std.specs.Prelude.{◌≡◌, OnOk, map, true};
 ghost use Rattle.ciel_journal.specs.Job.{Each};
 ghost use Rattle.ciel_log_file.specs.Sending.{CanSend, sent_to};
-ghost use Rattle.ciel_run_resumed.specs.Gates.{ToldOpen};
-ghost use Rattle.ciel_run_resumed.specs.Open.{begun_of};
+ghost use Rattle.ciel_run_onward.specs.Gates.{ToldOpen};
+ghost use Rattle.ciel_run_onward.specs.Open.{begun_of};
 ghost use Rattle.ciel_task_crew.specs.Crews.{Takes};
 
 use ciel_name::name::Namer;

@@ -1,12 +1,12 @@
--- Where a run goes on from, once its orders were sent; and where it ended with its log.
-use Rattle.std.proofs.Common.{◌≡◌, ◌≢◌, ℕ, List, Option, Some, None, Bool, true, sym, subst}
+-- Where a run goes on from, once its orders were sent; where it ended with its log; and where it stops for want of memory.
+use Rattle.std.proofs.Common.{◌≡◌, ℕ, List, Option, Some, None, Bool, true, sym, subst}
 use Rattle.sky_base.specs.JobView.{job_view}
 use Rattle.sky_base.specs.KitView.{Gives}
 use Rattle.ciel_journal.specs.Entries.{Entry}
 use Rattle.ciel_log_law.specs.Ended.{EndsSo}
 use Rattle.ciel_log_law.specs.RunEnd.{RunEnd}
 use Rattle.ciel_log_law.specs.Seen.{MasterSeen}
-use Rattle.ciel_run_resumed.specs.Resuming.{Stood, WorksOn}
+use Rattle.ciel_run_onward.specs.Onward.{Stood, WorksOn}
 use Rattle.ciel_task_order.specs.declared.order.Order.{Order}
 use Rattle.ciel_task_order.specs.declared.shop.Shop.{Shop}
 
@@ -36,3 +36,13 @@ pub ends_as : {K N : Type 0} (gives : K → Gives) (digest : N → List ℕ → 
 ends_as gives digest shop m J end result journal same e =
     subst (λ (x : List Entry × RunEnd). EndsSo (digest shop.namer) (job_view shop.job) (gives shop.kit) m.board.plan x.0 x.1)
     (λ i. (sym journal i, sym same i)) e
+
+-- where a run goes on from, its journal is driven: so is what comes of it that ends there for want of memory
+pub stood_memory : {K N : Type 0} (gives : K → Gives) (digest : N → List ℕ → List ℕ) (shop : Shop K N) (m : MasterSeen N) (out : List (Option Order))
+    (end : Option RunEnd) (draws : ℕ) → Stood gives digest shop m out end draws
+    → EndsSo (digest shop.namer) (job_view shop.job) (gives shop.kit) m.board.plan m.board.journal RunEnd.Memory
+stood_memory gives digest shop m out None draws k = record {
+  driven = (k.history, k.runs.driven, sym k.runs.follows.journal);
+  cause = tt;
+}
+stood_memory gives digest shop m out (Some end) draws e = record { driven = e.driven; cause = tt }

@@ -2,9 +2,9 @@
 use Rattle.std.proofs.Common.{◌≡◌, true}
 use Rattle.ciel_journal.specs.Job.{Each}
 use Rattle.ciel_log_file.specs.Sending.{CanSend, sent_to}
-use Rattle.ciel_run_resumed.proofs.Told.{SentSo}
+use Rattle.ciel_run_onward.proofs.Told.{SentSo}
 use Rattle.ciel_task_crew.specs.Crews.{Takes}
-use Rattle.ciel_run_resumed.proofs.gates.send_all.Given as goal
+use Rattle.ciel_run_onward.proofs.gates.send_all.Given as goal
 
 abbrev pub invariant-loop-order : goal.invariant-loop-order
 invariant-loop-order g l = record {

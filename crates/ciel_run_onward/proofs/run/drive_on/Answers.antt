@@ -4,10 +4,10 @@ use Rattle.ciel_log_law.specs.Logging.{LogSeen, most}
 use Rattle.ciel_log_law.specs.Kept.{Kept}
 use Rattle.ciel_log_law.specs.Views.{entry_view}
 use Rattle.ciel_run_logged.proofs.KeepingLaw.{keeper_same, keeps, keeps_so, so_far}
-use Rattle.ciel_run_resumed.proofs.Continued.{continued, continued_so}
-use Rattle.ciel_run_resumed.proofs.Told.{on_closed}
+use Rattle.ciel_run_onward.proofs.Continued.{continued, continued_so}
+use Rattle.ciel_run_onward.proofs.Told.{on_closed}
 use Rattle.ciel_task_crew.specs.Crews.{FadesEach}
-use Rattle.ciel_run_resumed.proofs.run.drive_on.Goals as goal
+use Rattle.ciel_run_onward.proofs.run.drive_on.Goals as goal
 
 -- the keeper that is handed back is the one that was lent
 pub returns-clause-keeps : goal.returns-clause-keeps

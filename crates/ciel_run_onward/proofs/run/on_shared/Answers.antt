@@ -1,5 +1,5 @@
 -- A crew of threads that was opened has no order, and tells at first what its gates tell.
-use Rattle.std.proofs.Common.{List, Option, map, ap, subst}
+use Rattle.std.proofs.Common.{map, ap, subst}
 use Rattle.std.specs.Arc.{arc_value}
 use Rattle.sky_base.specs.JobView.{job_view}
 use Rattle.ciel_journal.specs.History.{Plan}
@@ -9,11 +9,11 @@ use Rattle.ciel_log_law.specs.Ended.{EndsSo}
 use Rattle.ciel_log_law.specs.Told.{LogContinued}
 use Rattle.ciel_log_law.specs.Views.{entry_view}
 use Rattle.ciel_run_logged.specs.Keeping.{IfOver}
-use Rattle.ciel_run_resumed.specs.Resuming.{Stood, WorksOn}
-use Rattle.ciel_run_resumed.proofs.Opened.{of_crew, of_shop}
-use Rattle.ciel_run_resumed.proofs.Told.{since_first}
+use Rattle.ciel_run_onward.specs.Onward.{Stood, WorksOn}
+use Rattle.ciel_run_onward.proofs.Opened.{of_crew, of_shop}
+use Rattle.ciel_run_onward.proofs.Told.{since_first}
 use Rattle.ciel_task_crew.specs.Crews.{Takes}
-use Rattle.ciel_run_resumed.proofs.run.on_threads.Goals as goal
+use Rattle.ciel_run_onward.proofs.run.on_shared.Goals as goal
 
 pub run_over-requires-clause-sound : goal.run_over-requires-clause-sound
 run_over-requires-clause-sound g c = ap (λ w. w.sound) c.in-Ok-open.ensures.opened

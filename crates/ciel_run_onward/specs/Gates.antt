@@ -6,7 +6,7 @@ use Rattle.ciel_journal.specs.Job.{Digest, Task}
 use Rattle.ciel_journal.specs.Journals.{entered_in}
 use Rattle.ciel_task_crew.specs.Crews.{told_at}
 use Rattle.ciel_log_law.specs.RunDriveTold.{ToldOf}
-use Rattle.ciel_run_resumed.specs.Open.{Begun, begun_of, open_in}
+use Rattle.ciel_run_onward.specs.Open.{Begun, begun_of, open_in}
 use Rattle.ciel_task_order.specs.declared.order.Order.{Order}
 
 -- of these Starts the tasks of those at a worker, in order

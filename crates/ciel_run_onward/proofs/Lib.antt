@@ -1,0 +1,5 @@
+mod Told
+mod Written
+mod Continued
+mod Opened
+mod Sent
