@@ -54,7 +54,7 @@ use std::snapshot::Snapshot;
 use std::sync::{Arc, Wait};
 use std::thread::Threads;
 
-/// Where a run goes on: the orders that are out, the end, where the log has one, the state of the generator of draws, and the log.
+/// Where a run goes on: the orders that are out, the end, where the log has one, the state of the generator of draws, and the log that is kept.
 #[derive(Drop)]
 pub struct Onward {
     pub out: Vec<Order>,
@@ -63,7 +63,9 @@ pub struct Onward {
     pub log: Begins,
 }
 
-/// Goes on with the run on these hands with these gates, and gives them back.
+/// Goes on with the run on these hands with these gates, which are those of its workers, and gives them back.
+///
+/// There are 1 to 64 workers, and at most 64 threads are shared. The end is `Memory` for want of memory. The gates may then have entered tasks.
 pub fn run_onward<K, N, G, D, R>(
     rt: R,
     alloc: Global,
