@@ -2,8 +2,8 @@
 //!
 //! What executes is the crew that the caller's hands say (`ciel_crew_choice`): the one in one thread (`ciel_crew_inline`), a crew of threads
 //! (`ciel_crew_channels`), one that begins on what is still made (`ciel_flow`) or one that shares its threads (`ciel_steal`); `run_inline` has
-//! the one in one thread, and `run_rounds` one that performs its orders by rounds (`ciel_crew_rounds`). Nothing that is said here speaks of any
-//! of them: the end, the journal and what the gates tell are those that driving promises of any crew.
+//! the one in one thread. Nothing that is said here speaks of any of them: the end, the journal and what the gates tell are those that driving
+//! promises of any crew.
 #![tactic(auto)]
 
 pub mod gates;

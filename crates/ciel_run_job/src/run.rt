@@ -1,4 +1,4 @@
-//! The run of a job: on hands of the caller's choice, by rounds, or in the caller's own thread.
+//! The run of a job: on hands of the caller's choice, or in the caller's own thread.
 
 ghost use Rattle.std.specs.Prelude.{[], ◌≡◌, ◌≢◌, ◌≤◌, ◌⊎◌, ◌++◌, ◌<◌, ◌^◌, ℕ, IfOk, drop, length, map, take};
 ghost use Rattle.std.specs.Arc.{arc_value};
@@ -22,7 +22,6 @@ use crate::opening::{Opened, open};
 use ciel_crew_channels::channels::Channels;
 use ciel_crew_choice::hands::Hands;
 use ciel_crew_inline::inline::Inline;
-use ciel_crew_rounds::rounds::Rounds;
 use ciel_flow::streams::Streams;
 use ciel_gate::gate::Gate;
 use ciel_name::name::Namer;
@@ -140,54 +139,6 @@ where
         seed,
     } = begun;
     let (ran, back) = in_this_thread(rt, alloc, opened, own, plan, seed);
-    let (ran, all) = put_back(ran, back, others);
-    *gates = all;
-    ran
-}
-
-/// The same by rounds, for any number of workers, each with a thread where one can be had. The orders that were sent are performed beside one
-/// another where a report is asked for and none is kept, and the reports are taken by rising worker: so the journal doesn't depend on which
-/// of the threads is first. No clause says that.
-///
-/// There are 1 to 64 workers. The end is `Memory` for want of memory. The workers' gates may then have entered tasks, and the others may be
-/// gone.
-pub fn run_rounds<K, N, G, R>(
-    rt: R,
-    alloc: Global,
-    job: Job,
-    kit: K,
-    namer: N,
-    gates: &mut Vec<G>,
-    plan: RunPlan,
-) -> Ran
-where
-    K: Kit + Send + Sync + Drop + 'static,
-    N: Namer + Send + Sync + Drop + 'static,
-    G: Gate + Send + 'static,
-    R: Threads + Wait + Copy + Send + Drop + 'static,
-    requires read { IsRead (job_view job).script }
-    requires inputs { InputsInOrder (job_view job) }
-    requires keys { length job.script.keys < 2 ^ 32 }
-    requires workers { (0 < plan.workers) × (plan.workers ≤ 64) }
-    requires gates { plan.workers ≤ length gates.old.items }
-    requires losses { Each (λ (loss : ℕ × ℕ). loss.1 < plan.workers) plan.losses }
-    ensures end { EndsSo (N.digest namer) (job_view job) (K.gives kit) (plan_view plan) (map entry_view result.journal.items) result.end }
-    ensures told { result.end ≢ RunEnd.Memory → ToldBy (map entry_view result.journal.items) (told_of G.entered plan.workers gates.old.items)
-        (told_of G.entered plan.workers gates.new.items) }
-    ensures others { result.end ≢ RunEnd.Memory → drop plan.workers gates.new.items ≡ drop plan.workers gates.old.items }
-    ensures all { result.end ≢ RunEnd.Memory → length gates.new.items ≡ length gates.old.items }
-{
-    let Ok(begun) = begin(alloc, job, kit, namer, gates, plan) else {
-        return not_begun(alloc);
-    };
-    let Begun {
-        opened,
-        own,
-        others,
-        plan,
-        seed,
-    } = begun;
-    let (ran, back) = by_rounds(rt, alloc, opened, own, plan, seed);
     let (ran, all) = put_back(ran, back, others);
     *gates = all;
     ran
@@ -414,40 +365,6 @@ where
     functions_are_orderly();
     let Opened { shop, master, eyes } = opened;
     match Streams::open(rt, alloc, shop, gates, eyes) {
-        Ok(crew) => run_over(master, crew, seed),
-        Err((gates, Memory)) => (not_begun(alloc), gates),
-    }
-}
-
-/// Runs what was opened by rounds with these gates, and hands them back.
-fn by_rounds<K, N, G, R>(
-    rt: R,
-    alloc: Global,
-    opened: Opened<K, N>,
-    gates: Vec<G>,
-    plan: Snapshot<RunPlan>,
-    seed: u64,
-) -> (Ran, Vec<G>)
-where
-    K: Kit + Send + Sync + Drop + 'static,
-    N: Namer + Send + Sync + Drop + 'static,
-    G: Gate + Send + 'static,
-    R: Threads + Wait + Copy + Send + Drop + 'static,
-    requires opened { IsOpened N.digest plan.value (arc_value opened.shop) opened.master opened.eyes.items }
-    requires read { IsRead (job_view (arc_value opened.shop).job).script }
-    requires inputs { InputsInOrder (job_view (arc_value opened.shop).job) }
-    requires seed { seed ≡ plan.value.seed }
-    requires gates { length gates.items ≡ plan.value.workers }
-    requires workers { (0 < plan.value.workers) × (plan.value.workers ≤ 64) }
-    ensures end { EndsSo (N.digest (arc_value opened.shop).namer) (job_view (arc_value opened.shop).job) (K.gives (arc_value opened.shop).kit)
-        (plan_view plan.value) (map entry_view result.0.journal.items) result.0.end }
-    ensures told { result.0.end ≢ RunEnd.Memory
-        → ToldBy (map entry_view result.0.journal.items) (map G.entered gates.items) (map G.entered result.1.items) }
-    ensures all { result.0.end ≢ RunEnd.Memory → length result.1.items ≡ length gates.items }
-{
-    functions_are_orderly();
-    let Opened { shop, master, eyes } = opened;
-    match Rounds::open(rt, alloc, shop, gates, eyes) {
         Ok(crew) => run_over(master, crew, seed),
         Err((gates, Memory)) => (not_begun(alloc), gates),
     }

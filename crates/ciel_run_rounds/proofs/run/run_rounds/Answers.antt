@@ -1,10 +1,10 @@
 -- The gates are those that were lent, and the others.
 use Rattle.std.proofs.Common.{map, ap, subst, sym}
 use Rattle.sky_base.specs.JobView.{job_view}
-use Rattle.ciel_crew_channels.specs.Onward.{IsRead}
+use Rattle.ciel_run_job.specs.Onward.{IsRead}
 use Rattle.ciel_run_drive.specs.Views.{entry_view}
 use Rattle.ciel_run_job.proofs.Lent.{all_back, others_back, told_back}
-use Rattle.ciel_run_job.proofs.run.run_rounds.Goals as goal
+use Rattle.ciel_run_rounds.proofs.run.run_rounds.Goals as goal
 
 pub by_rounds-ran-requires-clause-read : goal.by_rounds-ran-requires-clause-read
 by_rounds-ran-requires-clause-read g c κs within = subst (λ j. IsRead (job_view j).script) (sym c.in-Ok.ensures.shop.job_is) c.requires.read

@@ -4,7 +4,7 @@ use Rattle.std.specs.Arc.{arc_value}
 use Rattle.ciel_run_drive.specs.Views.{entry_view}
 use Rattle.ciel_run_job.proofs.Began.{kept_of, working_of}
 use Rattle.ciel_run_job.proofs.Lent.{many_after, told_first}
-use Rattle.ciel_run_job.proofs.run.by_rounds.Goals as goal
+use Rattle.ciel_run_rounds.proofs.run.by_rounds.Goals as goal
 
 pub run_over-requires-clause-kept : goal.run_over-requires-clause-kept
 run_over-requires-clause-kept g c =
